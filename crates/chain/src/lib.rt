@@ -1,0 +1,2 @@
+// Chains: versions, what a list of them reads, and pruning to the shortest list that serves.
+pub mod version;
