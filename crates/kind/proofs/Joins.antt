@@ -9,7 +9,7 @@ use Rattle.kind.specs.Undoing.{undo-all, join-all}
 
 -- a fold from the front, one element more
 folded-next : {S X : Type 0} (F : S → List X → S) → ((s : S) (xs ys : List X) → F s (xs ++ ys) ≡ F (F s xs) ys) →
-  (s : S) (xs : List X) (i : ℕ) (x : X) → i < length xs → x ≡ getD xs i x → F (F s (take i xs)) (x ∷ []) ≡ F s (take (i + 1) xs)
+    (s : S) (xs : List X) (i : ℕ) (x : X) → i < length xs → x ≡ getD xs i x → F (F s (take i xs)) (x ∷ []) ≡ F s (take (i + 1) xs)
 folded-next F splits s xs i x within read =
     let pushed : take (i + 1) xs ≡ take i xs ++ (x ∷ []) = take-more xs i x within ∙ ap (λ y. take i xs ++ (y ∷ [])) (sym read) in
     sym (ap (F s) pushed ∙ splits s (take i xs) (x ∷ []))

@@ -35,5 +35,6 @@ module _ {Row Edit Change : Type 0} (k : Ops Row Edit Change) where
   decided true r q d = sym (same-no r q (d .0 refl))
   decided false r q d =
       elim (same k r q) as (λ s. same k r q ≡ s → false ≡ s) [
-        true ↦ λ e. absurd (true≢false (sym (d .1 (same-yes r q e))))
-      | false ↦ λ e. refl ] refl
+        | true ↦ λ e. absurd (true≢false (sym (d .1 (same-yes r q e))))
+        | false ↦ λ e. refl
+      ] refl

@@ -8,7 +8,9 @@ pub mod undoing;
 // The marker type that implements this names the kind. No function refuses or allocates.
 pub trait Kind {
     type Row: Copy;
+
     type Edit: Copy;
+
     type Change: Copy;
 
     // What each function answers.
