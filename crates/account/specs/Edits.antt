@@ -1,0 +1,17 @@
+-- The edits that the account makes. Attribute 1 is the number of axles and attribute 3 the empty weight; counter 0 counts
+-- loads and counter 1 tonnage.
+use mathlib.Core.List.{[], _∷_}
+use Prim.Native.Nat.{ℕ}
+use Rattle.fields.specs.Fields.{patch}
+use Rattle.fields.specs.declared.Patch.{Patch}
+use Rattle.tallies.specs.Tallies.{counts}
+use Rattle.tallies.specs.declared.Counts.{Counts}
+
+abbrev pub weight-set : ℕ → Patch
+weight-set kg = patch 8 (0 ∷ 0 ∷ 0 ∷ kg ∷ 0 ∷ 0 ∷ 0 ∷ 0 ∷ [])
+
+abbrev pub axles-set : ℕ → ℕ → Patch
+axles-set n kg = patch 10 (0 ∷ n ∷ 0 ∷ kg ∷ 0 ∷ 0 ∷ 0 ∷ 0 ∷ [])
+
+abbrev pub load-added : ℕ → ℕ → Counts
+load-added loads kg = counts (loads ∷ kg ∷ 0 ∷ 0 ∷ [])
