@@ -1,0 +1,4 @@
+// The version table: the chains of many records in one fixed table of slots. Nothing allocates once it is made.
+pub mod ops;
+pub mod table;
+pub mod walk;
