@@ -91,6 +91,14 @@ open-none os a (suc b) e s h l u = go (leb a b && ltb 0 (os b)) refl e (ℕ-disc
     go false f e (yes q) ih = here f q
     go false f e (no n) ih = ih e s h l (omega arith)
 
+-- no time is open at all
+pub shut-in : (os : ℕ → ℕ) → ((s : ℕ) → os s ≡ 0) → (a b : ℕ) → open-in os a b ≡ false
+shut-in os none a b = go (open-in os a b) refl
+  where
+    go : (c : Bool) → open-in os a b ≡ c → c ≡ false
+    go true e = let w = open-some os a b e in let f : ⊥ = omega (arith, none (w .0), w .1) in absurd f
+    go false e = refl
+
 -- the least open time from a on tells whether one is open below b
 pub least-some : (os : ℕ → ℕ) (a b m : ℕ) → Least-from os a (Some m) → ltb m b ≡ open-in os a b
 least-some os a b m d = go (open-in os a b) refl
@@ -145,3 +153,6 @@ gap-some ls a b m e = least-some (opens ls) a b m (subst (Least-from (opens ls) 
 
 pub gap-none : (ls : List ℕ) (a b : ℕ) → None ≡ least a ls → false ≡ open-in (opens ls) a b
 gap-none ls a b e = least-none (opens ls) a b (subst (Least-from (opens ls) a) (sym e) (least-right a ls))
+
+pub none-open : (ls : List ℕ) → None ≡ least 0 ls → (s : ℕ) → opens ls s ≡ 0
+none-open ls e s = subst (Least-from (opens ls) 0) (sym e) (least-right 0 ls) s (omega arith)
