@@ -49,7 +49,10 @@ impl Drop for Writer {
     fn drop(self)
         requires { ⌜ self .spent ≡ true ⌝ }
     {
-        let Writer { number: _, spent: _ } = self;
+        let Writer {
+            number: _,
+            spent: _,
+        } = self;
     }
 }
 
@@ -58,7 +61,10 @@ impl Writer {
     pub fn take_up(number: u32) -> Writer
         ensures { λ r. ⌜ Of number r ⌝ }
     {
-        Writer { number, spent: false }
+        Writer {
+            number,
+            spent: false,
+        }
     }
 
     pub fn number(&self) -> u32
