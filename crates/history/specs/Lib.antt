@@ -1,0 +1,5 @@
+pub mod Card
+pub mod History
+pub mod Law
+pub mod Model
+pub mod Determined
