@@ -1,2 +1,5 @@
 pub mod Rights
 pub mod Ties
+pub mod Counts
+pub mod Room
+pub mod Simulation
