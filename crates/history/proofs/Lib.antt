@@ -3,3 +3,5 @@ pub mod Ties
 pub mod Counts
 pub mod Room
 pub mod Simulation
+pub mod Determining
+pub mod Wrongs

@@ -3,3 +3,5 @@ pub mod History
 pub mod Law
 pub mod Model
 pub mod Determined
+pub mod Cells
+pub mod Wrong
