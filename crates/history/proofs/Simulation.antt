@@ -19,7 +19,7 @@ use Rattle.lease.specs.Card.{none-open, full}
 use Rattle.lease.specs.declared.fault.Layer.{Layer}
 use Rattle.chain.specs.declared.version.Version.{Version}
 use Rattle.chain.specs.Versions.{Open}
-use Rattle.chain.specs.RecordLaw.{Right, RecordLaw}
+use Rattle.chain.specs.RecordLaw.{Right}
 use Rattle.history.specs.declared.call.Call.{Call}
 use Rattle.history.specs.declared.call.Call.the-variants.{Open as call-open, Read as call-read, Close as call-close, Begin as call-begin, Look as call-look, Change as call-change, Commit as call-commit, Abandon as call-abandon, Held as call-held, Kept as call-kept, InUse as call-in-use}
 use Rattle.history.specs.declared.call.Outcome.{Outcome}
@@ -151,7 +151,7 @@ module _ {Row Edit Change : Type 0} (k : Ops Row Edit Change) where
   record Decided (room : ℕ) (P : Told Row → History Row → Type 0) (m : Model Row Change) (ls : List ℕ) (o : Option StoreFault) (st : Step Row Change) : Type 0 where
     met : Met room P (decide o m ls st)
 
-  module _ (laws : Laws k) (law : RecordLaw k) where
+  module _ (laws : Laws k) where
     -- a record's chain, from the history's own row
     tied-right : (os : ℕ → ℕ) (c : ℕ) (f : Record Row) (x : Stored Row Change) → Tied k os c f x → Right k os (f .newest .row) (past k f) (x .chain)
     tied-right os c f x d = right-row k laws os (finished-row k x) (f .newest .row) (past k f) (x .chain) (d .newest) (d .right)
@@ -230,7 +230,7 @@ module _ {Row Edit Change : Type 0} (k : Ops Row Edit Change) where
           record {
             table = z .table;
             low = λ u o. go u (insert-cases t ls u o);
-            ties = ties-keep (opens ls) (opens (insert t ls)) (m .clock) t (λ f x d. open-tied k laws law (opens ls) (opens (insert t ls)) (m .clock) t f x (insert-cases t ls) (insert-keeps t ls) late d) fs (m .records) (z .ties);
+            ties = ties-keep (opens ls) (opens (insert t ls)) (m .clock) t (λ f x d. open-tied k laws (opens ls) (opens (insert t ls)) (m .clock) t f x (insert-cases t ls) (insert-keeps t ls) late d) fs (m .records) (z .ties);
             fits = z .fits;
           }
         where
@@ -244,7 +244,7 @@ module _ {Row Edit Change : Type 0} (k : Ops Row Edit Change) where
           record {
             table = z .table;
             low = λ u o. z .low u (delete-sub t ls u o);
-            ties = ties-right (opens ls) fewer (m .clock) (m .clock) _ (λ f x h. pruned-tied k laws law (opens ls) fewer (m .clock) (m .clock) f x (omega arith) (delete-sub t ls) h) fs (m .records) (z .ties);
+            ties = ties-right (opens ls) fewer (m .clock) (m .clock) _ (λ f x h. pruned-tied k laws (opens ls) fewer (m .clock) (m .clock) f x (omega arith) (delete-sub t ls) h) fs (m .records) (z .ties);
             fits = omega (arith, z .fits, map-cost k (pruned k fewer) (pruned-cost k fewer) (m .records));
           }
 
@@ -261,7 +261,7 @@ module _ {Row Edit Change : Type 0} (k : Ops Row Edit Change) where
             table = z .table;
             low = λ u o. omega (arith, z .low u (delete-sub w ls u o));
             ties = subst (λ xs. Ties fewer (m .clock + 1) (map (finish-record k w (m .clock + 1)) fs) xs) split
-              (ties-map (opens ls) fewer (m .clock) (m .clock + 1) _ both (λ f x h. finish-tied k laws law (opens ls) fewer (m .clock) w f x (λ u o. (delete-sub w ls u o, z .low u (delete-sub w ls u o))) h) fs (m .records) (z .ties));
+              (ties-map (opens ls) fewer (m .clock) (m .clock + 1) _ both (λ f x h. finish-tied k laws (opens ls) fewer (m .clock) w f x (λ u o. (delete-sub w ls u o, z .low u (delete-sub w ls u o))) h) fs (m .records) (z .ties));
             fits = subst (λ xs. in-use xs ≤ room) split
               (omega (arith, z .fits, map-cost k both (λ x. omega (arith, pruned-cost k fewer (finish-stored k w (m .clock + 1) x), finish-cost k w (m .clock + 1) x (x .holder) refl)) (m .records)));
           }
@@ -275,7 +275,7 @@ module _ {Row Edit Change : Type 0} (k : Ops Row Edit Change) where
             table = z .table;
             low = λ u o. z .low u (delete-sub w ls u o);
             ties = subst (λ xs. Ties fewer (m .clock) (map (free-record k w) fs) xs) split
-              (ties-map (opens ls) fewer (m .clock) (m .clock) _ both (λ f x h. pruned-tied k laws law (opens ls) fewer (m .clock) (m .clock) _ _ (omega arith) (delete-sub w ls) (free-tied k laws law (opens ls) (m .clock) w f x h)) fs (m .records) (z .ties));
+              (ties-map (opens ls) fewer (m .clock) (m .clock) _ both (λ f x h. pruned-tied k laws (opens ls) fewer (m .clock) (m .clock) _ _ (omega arith) (delete-sub w ls) (free-tied k laws (opens ls) (m .clock) w f x h)) fs (m .records) (z .ties));
             fits = subst (λ xs. in-use xs ≤ room) split
               (omega (arith, z .fits, map-cost k both (λ x. omega (arith, pruned-cost k fewer (free-stored k w x), free-cost k w x (x .holder))) (m .records)));
           }
@@ -284,7 +284,7 @@ module _ {Row Edit Change : Type 0} (k : Ops Row Edit Change) where
       changes w i e b =
           record {
             table = z .table; low = z .low;
-            ties = ties-at (opens ls) (m .clock) _ _ (change-tied k laws law (opens ls) (m .clock) w e) fs (m .records) i (z .ties);
+            ties = ties-at (opens ls) (m .clock) _ _ (change-tied k laws (opens ls) (m .clock) w e) fs (m .records) i (z .ties);
             fits = go (is-free (record-at k m i .holder)) refl b;
           }
         where

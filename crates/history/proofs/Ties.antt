@@ -11,10 +11,12 @@ use Rattle.kind.specs.Kinds.{Ops, Laws}
 use Rattle.chain.specs.declared.version.Version.{Version}
 use Rattle.chain.specs.Versions.{Finished, Open, AtMost, reading}
 use Rattle.chain.specs.Pruning.{prune}
-use Rattle.chain.specs.RecordLaw.{Right, RecordLaw}
+use Rattle.chain.specs.RecordLaw.{Right}
 use Rattle.history.specs.History.{Hold, free, held, Record, past, change-record, finish-record, free-record}
 use Rattle.history.specs.Model.{Stored, finished-under, finished-row, pruned, change-stored, finish-stored, free-stored}
-use Rattle.history.proofs.Rights.{atmost-mono, right-row, right-full, prune-atmost}
+use Rattle.chain.proofs.Reading.{atmost-mono}
+use Rattle.chain.proofs.Law.{open-keeps, close-keeps, commit-keeps}
+use Rattle.history.proofs.Rights.{right-row, right-full, pruned-atmost}
 
 module _ {Row Edit Change : Type 0} (k : Ops Row Edit Change) where
   -- both know the same holder, and the row in place tells the held row
@@ -38,7 +40,7 @@ module _ {Row Edit Change : Type 0} (k : Ops Row Edit Change) where
   abbrev stored : Row → Hold Change → ℕ → List (Version Change) → Stored Row Change
   stored p h l c = record { place = p; holder = h; last = l; chain = c }
 
-  module _ (laws : Laws k) (law : RecordLaw k) where
+  module _ (laws : Laws k) where
     -- a lease more, at t
     pub open-tied : (os more : ℕ → ℕ) (clock t : ℕ) (f : Record Row) (x : Stored Row Change) → ((w : ℕ) → Open more w → (w ≡ t) ⊎ Open os w) → ((w : ℕ) → Open os w → Open more w) → clock ≤ t → Tied os clock f x → Tied more t f x
     open-tied os more clock t f x cases keeps h d =
@@ -46,7 +48,7 @@ module _ {Row Edit Change : Type 0} (k : Ops Row Edit Change) where
         let reach : f .newest .row ≡ past k f t = sym (ap (λ b. cond b (f .newest .row) (reading (k .blank) (f .older) t)) (le-leb (f .newest .time) t (omega (arith, d .last)))) in
         record {
           last = d .last; early = late; within = d .within; newest = d .newest; holds = d .holds;
-          right = law .opened os more (finished-row k x) (past k f) (x .chain) t cases keeps (atmost-mono (x .chain) (x .last) t late (d .within)) (d .newest ∙ ap (k .tells) reach) (d .right);
+          right = open-keeps k os more (finished-row k x) (past k f) (x .chain) t cases keeps (atmost-mono (x .chain) (x .last) t late (d .within)) (d .newest ∙ ap (k .tells) reach) (d .right);
         }
 
     -- fewer leases, and the chain pruned
@@ -54,8 +56,8 @@ module _ {Row Edit Change : Type 0} (k : Ops Row Edit Change) where
     pruned-tied os fewer clock t f x h sub d =
         record {
           last = d .last; early = omega (arith, d .early); newest = d .newest; holds = d .holds;
-          within = prune-atmost k fewer (x .chain) (finished-row k x) (x .last) (d .within);
-          right = law .closed os fewer (finished-row k x) (past k f) (x .chain) sub (d .right);
+          within = pruned-atmost k fewer (x .chain) (finished-row k x) (x .last) (d .within);
+          right = close-keeps k laws os fewer (finished-row k x) (past k f) (x .chain) sub (d .right);
         }
 
     -- from one row to another that tells the same, and a new holder
@@ -122,10 +124,10 @@ module _ {Row Edit Change : Type 0} (k : Ops Row Edit Change) where
             done =
                 record {
                   last = refl; early = omega arith; newest = sym (d .holds .1); holds = tt;
-                  within = prune-atmost k fewer (version ∷ x .chain) (x .place) (clock + 1) (omega arith, before);
+                  within = pruned-atmost k fewer (version ∷ x .chain) (x .place) (clock + 1) (omega arith, before);
                   right =
                     right-full k fewer (x .place) _ _ _ (λ s o. ap (k .tells) (older (x .place) s o ∙ sym (older r s o)))
-                    (law .committed os fewer (k .undo (x .place) c) (x .place) (k .blank) hs (x .chain) version (λ s o. (sub s o .0, omega (arith, sub s o .1))) before refl (d .right));
+                    (commit-keeps k laws os fewer (k .undo (x .place) c) (x .place) (k .blank) hs (x .chain) version (λ s o. (sub s o .0, omega (arith, sub s o .1))) before refl (d .right));
                 }
 
             test : (a b : Bool) → a ≡ b → Tied fewer (clock + 1) (cond a (rec (record { time = clock + 1; row = r }) hs free) (rec (f .newest) (f .older) (held v r))) (pruned k fewer (cond b (stored (x .place) free (clock + 1) (version ∷ x .chain)) (stored (x .place) (held u c) (x .last) (x .chain))))
