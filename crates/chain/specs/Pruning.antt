@@ -2,6 +2,7 @@
 --     open-in os a b       some open time is at least a and below b
 --     join-versions k n o  one version for two: the newer's time, the changes joined
 --     prune k os r vs      the pruned list of a chain that leads back from the row r
+--     prune-held k os r vs the same behind a first version, which is a holder's change and leads back from the row in place
 -- A version below whose time no time is open is dropped; versions with the same open times below them are joined into
 -- one, which has the newest of their times; a version, joined or single, whose undoing leaves the row reached telling
 -- the same is dropped.
@@ -31,3 +32,7 @@ module _ {Row Edit Change : Type 0} (k : Ops Row Edit Change) where
   abbrev pub prune : (ℕ → ℕ) → Row → List (Version Change) → List (Version Change)
   prune os r [] = []
   prune os r (v ∷ vs) = prune-from os r v vs
+
+  abbrev pub prune-held : (ℕ → ℕ) → Row → List (Version Change) → List (Version Change)
+  prune-held os place [] = []
+  prune-held os place (v ∷ vs) = v ∷ prune os (k .undo place (v .change)) vs

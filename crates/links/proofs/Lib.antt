@@ -1,0 +1,6 @@
+pub mod Cut
+pub mod CutSteps
+pub mod Fresh
+pub mod Linked
+pub mod Steps
+pub mod Ways

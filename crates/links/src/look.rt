@@ -1,0 +1,37 @@
+// Walking a list, slot by slot.
+ghost use mathlib.Core.Path.{_≡_};
+ghost use mathlib.Core.List.{[], _∷_};
+ghost use Prim.Native.Nat.{_<_};
+ghost use lib.ListN.{length, getD};
+ghost use Rattle.std.specs.declared.option.Option.the-variants.{Some};
+ghost use Rattle.std.specs.shelf.Lists.{sumBy};
+ghost use Rattle.links.specs.Meaning.{slots, size, from, Onto};
+use crate::table::Links;
+
+impl Links {
+    /// Where the list r begins.
+    pub fn first(&self, r: usize) -> Option<u16>
+        requires { ⌜ r < length (slots (now self)) ⌝ }
+        ensures onto { λ o. ⌜ Onto (now (self .entry)) o ⌝ }
+        ensures list { λ o. ⌜ from (now (self .entry)) o ≡ getD (slots (now (self .entry))) r [] ⌝ }
+    {
+        self.heads[r]
+    }
+
+    /// What follows the slot s of a list.
+    pub fn after(&self, s: u16) -> Option<u16>
+        requires { ⌜ Onto (now self) (Some s) ⌝ }
+        ensures onto { λ o. ⌜ Onto (now (self .entry)) o ⌝ }
+        ensures list { λ o. ⌜ from (now (self .entry)) (Some s) ≡ s ∷ from (now (self .entry)) o ⌝ }
+        ensures inside { λ _. ⌜ s < size (now (self .entry)) ⌝ }
+    {
+        self.next[s as usize]
+    }
+
+    /// The slots in use.
+    pub fn used(&self) -> usize
+        ensures { λ r. ⌜ r ≡ sumBy length (slots (now (self .entry))) ⌝ }
+    {
+        self.used
+    }
+}

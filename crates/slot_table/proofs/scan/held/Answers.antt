@@ -1,0 +1,28 @@
+use mathlib.Core.Path.{_≡_, ap, sym, _∙_, refl}
+use mathlib.Core.Bool.{Bool, true, false}
+use mathlib.Core.List.{List}
+use Prim.Native.Nat.{ℕ, _+_, _<_, suc}
+use native.Mathlib.Omega.{arith}
+use lib.ListN.{length, getD, drop}
+use Rattle.std.specs.Options.{isSome}
+use Rattle.std.specs.declared.option.Option.{Option}
+use Rattle.std.specs.declared.option.Option.the-variants.{Some, None}
+use Rattle.slot_table.specs.Slots.{taken}
+use Rattle.slot_table.proofs.Filling.{taken-some, taken-none, taken-all, length-full, length-empty}
+use Rattle.slot_table.proofs.scan.held.Needs as need
+use Rattle.slot_table.proofs.scan.held.Needs.{then-is-some, else-is-some}
+
+pub loop-slot-again : need.loop-slot-again
+loop-slot-again c =
+    let xs = c .args .slots .now in
+    let i = c .loop-slot .slot-index in
+    let h = c .loop-slot-test .taken in
+    elim (c .if-is-some .came) [
+      | then-is-some w ↦ let e = length-full xs i h (w .if-is-some .ensures tt) in omega (arith, w .n-is)
+      | else-is-some w ↦ let e = length-empty xs i h (w .if-is-some .ensures tt) in omega (arith, w .n-is)
+    ]
+
+pub returns : need.returns
+returns c =
+    let e = ap length (taken-all (c .args .slots .now) (c .loop-slot .slot-index) (c .loop-slot-test .left)) in
+    omega arith

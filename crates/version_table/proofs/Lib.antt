@@ -1,0 +1,4 @@
+pub mod Picks
+pub mod Readings
+pub mod Removes
+pub mod Shapes

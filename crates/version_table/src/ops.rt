@@ -1,0 +1,139 @@
+ghost use mathlib.Core.Path.{_≡_};
+ghost use mathlib.Core.List.{List, [], _∷_, _++_};
+ghost use mathlib.Core.Bool.{Bool, true, false, cond};
+ghost use Prim.Native.Nat.{ℕ, _+_, _-_, _*_, _<_, _≤_};
+ghost use lib.Dec.{leb, ltb};
+ghost use lib.ListN.{length, getD, set, drop, take, replicate};
+ghost use Rattle.std.specs.Vec.{made};
+ghost use Rattle.std.specs.Of.Vec.{vec-items, vec-len};
+ghost use Rattle.std.specs.Options.{Cases};
+ghost use Rattle.std.specs.shelf.Lists.{sumBy};
+ghost use Rattle.version_table.specs.Chains.{chains, capacity};
+use crate::table::VersionTable;
+use chain::version::Version;
+use links::table::Links;
+use std::alloc::AllocError;
+use std::alloc::Global;
+
+fn filled<X: Copy>(heap: Global, m: usize, x: X) -> Result<Vec<X>, AllocError>
+    ensures { λ r. ⌜ made r (λ v. vec-len v ≡ m) ⌝ }
+{
+    let mut v = Vec::with_capacity(heap, m)?;
+    for _i in 0..m {
+        v.push(x)?;
+    }
+    Ok(v)
+}
+
+impl<C: Copy> VersionTable<C> {
+    pub fn new(
+        heap: Global,
+        records: usize,
+        versions: usize,
+        blank: Version<C>,
+    ) -> Result<VersionTable<C>, AllocError>
+        requires { ⌜ 1 ≤ versions ⌝ ∗ ⌜ versions ≤ 65536 ⌝ }
+        ensures { λ r. ⌜ made r (λ k. (chains k ≡ replicate records []) × (capacity k ≡ versions)) ⌝ }
+    {
+        let links = Links::new(heap, records, versions)?;
+        let versions = filled(heap, versions, blank)?;
+        Ok(VersionTable { links, versions })
+    }
+
+    /// How many versions there are.
+    pub fn used(&self) -> usize
+        ensures { λ r. ⌜ r ≡ sumBy length (chains (now (self .entry))) ⌝ }
+    {
+        self.links.used()
+    }
+
+    /// Whether every slot is in use.
+    pub fn is_full(&self) -> bool
+        ensures { λ r. ⌜ r ≡ leb (capacity (now (self .entry))) (sumBy length (chains (now (self .entry)))) ⌝ }
+    {
+        self.versions.len() <= self.links.used()
+    }
+
+    /// A version in front of the chain r, unless the table is full.
+    pub fn push(&mut self, r: usize, version: Version<C>) -> bool
+        requires { ⌜ r < length (chains (now self)) ⌝ }
+        ensures room { λ _. ⌜ capacity (now (self .exit)) ≡ capacity (now (self .entry)) ⌝ }
+        ensures done { λ ok. ⌜ ok ≡ ltb (sumBy length (chains (now (self .entry)))) (capacity (now (self .entry))) ⌝ }
+        ensures pushed { λ ok. ⌜ chains (now (self .exit)) ≡ cond ok (set (chains (now (self .entry))) r (version ∷ getD (chains (now (self .entry))) r [])) (chains (now (self .entry))) ⌝ }
+    {
+        match self.links.take(r) {
+            None => false,
+            Some(s) => {
+                self.versions[s as usize] = version;
+                true
+            }
+        }
+    }
+
+    /// The version in front of the chain r leaves it.
+    pub fn pop(&mut self, r: usize) -> Option<Version<C>>
+        requires { ⌜ r < length (chains (now self)) ⌝ }
+        ensures room { λ _. ⌜ capacity (now (self .exit)) ≡ capacity (now (self .entry)) ⌝ }
+        ensures popped { λ o. ⌜ Cases o ((chains (now (self .exit)) ≡ chains (now (self .entry))) × (getD (chains (now (self .entry))) r [] ≡ []))
+            (λ v. (chains (now (self .exit)) ≡ set (chains (now (self .entry))) r (drop 1 (getD (chains (now (self .entry))) r []))) × (getD (chains (now (self .entry))) r [] ≡ v ∷ drop 1 (getD (chains (now (self .entry))) r []))) ⌝ }
+    {
+        match self.links.give(r) {
+            None => None,
+            Some(s) => Some(self.versions[s as usize]),
+        }
+    }
+
+    /// The newest version of the chain r.
+    pub fn front(&self, r: usize) -> Option<Version<C>>
+        requires { ⌜ r < length (chains (now self)) ⌝ }
+        ensures { λ o. ⌜ Cases o (getD (chains (now (self .entry))) r [] ≡ []) (λ v. getD (chains (now (self .entry))) r [] ≡ v ∷ drop 1 (getD (chains (now (self .entry))) r [])) ⌝ }
+    {
+        match self.links.first(r) {
+            None => None,
+            Some(s) => {
+                let _next = self.links.after(s);
+                Some(self.versions[s as usize])
+            }
+        }
+    }
+
+    /// Empties the chain r.
+    pub fn clear(&mut self, r: usize)
+        requires { ⌜ r < length (chains (now self)) ⌝ }
+        ensures room { λ _. ⌜ capacity (now (self .exit)) ≡ capacity (now (self .entry)) ⌝ }
+        ensures cleared { λ _. ⌜ chains (now (self .exit)) ≡ set (chains (now (self .entry))) r [] ⌝ }
+    {
+        self.links.clear(r);
+    }
+
+    /// How many versions the chain r has.
+    pub fn len(&self, r: usize) -> usize
+        requires { ⌜ r < length (chains (now self)) ⌝ }
+        ensures { λ n. ⌜ n ≡ length (getD (chains (now (self .entry))) r []) ⌝ }
+    {
+        let mut n = 0;
+        let mut at = self.links.first(r);
+        while let Some(s) = at {
+            n += 1;
+            at = self.links.after(s);
+        }
+        n
+    }
+
+    /// The newest version of the chain r has another change: false where there is none.
+    pub fn replace(&mut self, r: usize, version: Version<C>) -> bool
+        requires { ⌜ r < length (chains (now self)) ⌝ }
+        ensures room { λ _. ⌜ capacity (now (self .exit)) ≡ capacity (now (self .entry)) ⌝ }
+        ensures done { λ ok. ⌜ ok ≡ ltb 0 (length (getD (chains (now (self .entry))) r [])) ⌝ }
+        ensures replaced { λ ok. ⌜ chains (now (self .exit)) ≡ cond ok (set (chains (now (self .entry))) r (version ∷ drop 1 (getD (chains (now (self .entry))) r []))) (chains (now (self .entry))) ⌝ }
+    {
+        match self.links.first(r) {
+            None => false,
+            Some(s) => {
+                let _next = self.links.after(s);
+                self.versions[s as usize] = version;
+                true
+            }
+        }
+    }
+}
