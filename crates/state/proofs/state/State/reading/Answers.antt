@@ -6,21 +6,12 @@ use Rattle.chain.specs.Versions.{reads}
 use Rattle.version_table.specs.Chains.{chains}
 use Rattle.state.specs.View.{view, stored}
 use Rattle.history.specs.Model.{reading, new-stored}
-use Rattle.state.proofs.Views.{in-table, in-records, view-at, read-free, read-held, read-bare}
+use Rattle.state.proofs.Views.{in-records, view-at, read-free, read-held, read-bare}
 use Rattle.state.proofs.state.State.reading.Needs.{in-Some-front, in-rest}
 use Rattle.state.proofs.state.State.reading.Needs as need
 
 pub index-entry-requires : need.index-entry-requires
 index-entry-requires g c κs = omega (arith, in-records (c .args .self .now) (c .args .i) (c .pre), c .args .self .now .records .ok .0)
-
-pub read-back-requires : need.read-back-requires
-read-back-requires g c κs = in-table (c .args .self .now) (c .args .i) (c .pre)
-
-pub front-requires : need.front-requires
-front-requires g c κs = in-table (c .args .self .now) (c .args .i) (c .pre)
-
-pub read-past-first-requires : need.read-past-first-requires
-read-past-first-requires g c κs = in-table (c .args .self .now) (c .args .i) (c .pre)
 
 pub returns-in-None : need.returns-in-None
 returns-in-None g c =

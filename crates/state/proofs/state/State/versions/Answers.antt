@@ -10,13 +10,10 @@ use Rattle.version_table.specs.Chains.{chains, Listed}
 use Rattle.chain.specs.declared.version.Version.{Version}
 use Rattle.state.specs.View.{view, stored, Placed}
 use Rattle.history.specs.Model.{Stored, record-at, new-stored, free-stored, or-else}
-use Rattle.state.proofs.Views.{in-records, in-table, view-at}
+use Rattle.state.proofs.Views.{in-records, view-at}
 use Rattle.state.proofs.Writes.{there}
 use Rattle.state.proofs.Fresh.{behind-none, behind-some, one-fewer}
 use Rattle.state.proofs.state.State.versions.Needs as need
-
-pub len-all-requires : need.len-all-requires
-len-all-requires g c κs = in-table (c .args .self .now) (c .args .i) (c .pre)
 
 pub index-requires : need.index-requires
 index-requires g c κs = omega (arith, in-records (c .args .self .now) (c .args .i) (c .pre), c .args .self .now .records .ok .0)
