@@ -1,0 +1,7 @@
+pub mod Card
+pub mod Commands
+pub mod Kinds
+pub mod Lines
+pub mod Parts
+pub mod Spans
+pub mod Words
