@@ -13,6 +13,8 @@ use Rattle.history.specs.declared.call.Call.{Call}
 use Rattle.script.specs.Card.{unknown-letter, bad-word}
 use Rattle.script.specs.Commands.{Worded, Taken, one-taken, two-taken, four-taken, command-of, call-of, ended, asked, letter-of, known, line-command, line-call}
 use Rattle.script.specs.Kinds.{Terms}
+use Rattle.script.specs.Openings.{kind-of, sizes-of, with-kind, opening}
+use Rattle.script.specs.declared.opening.KindLetter.{KindLetter}
 use Rattle.script.specs.Words.{Part, words, first, rest, over, words-left}
 use Rattle.script.proofs.Cuts.{all-words}
 
@@ -64,6 +66,14 @@ line-unknown {l} {m} {a} {b} {p} o e =
 pub from-start : (l m : List ℕ) (a : ℕ) → m ≡ l → a ≡ 0 → line-command (length m) (words-left m a) ≡ line-command (length l) (words l)
 from-start l m a e z = ap (λ x. line-command (length m) (words-left m x)) z ∙ ap (λ x. line-command (length x) (words-left x 0)) e ∙ ap (line-command (length l)) (all-words l)
 
+pub ended-more : {X : Type 0} (k : ℕ) (x : X) (ws : List Part) (p : ℕ) → over ws ≡ Some p → ended k (Ok x) ws ≡ Err (bad-word k p)
+ended-more k x [] p g = let z : _≡_ {A = ℕ} 0 1 = cc in absurd (omega arith)
+ended-more k x (w ∷ ws) p g = let q : w .place ≡ p = cc in ap (λ y. Err (bad-word k y)) q
+
+pub ended-done : {X : Type 0} (k : ℕ) (x : X) (ws : List Part) → over ws ≡ None → ended k (Ok x) ws ≡ Ok x
+ended-done k x [] g = refl
+ended-done k x (w ∷ ws) g = let z : _≡_ {A = ℕ} 0 1 = cc in absurd (omega arith)
+
 module _ {Edit : Type 0} (t : Terms Edit) (k : ℕ) (l : List ℕ) where
   pub call-none : line-command (length l) (words l) ≡ None → line-call t k l ≡ Err (unknown-letter k)
   unfolding line-call
@@ -75,16 +85,30 @@ module _ {Edit : Type 0} (t : Terms Edit) (k : ℕ) (l : List ℕ) where
 
   pub call-more : (c : Worded) (ws : List Part) (x : Call Edit) (p : ℕ) → line-command (length l) (words l) ≡ Some (record { command = c; left = ws }) → call-of t c ≡ Ok x → over ws ≡ Some p → line-call t k l ≡ Err (bad-word k p)
   unfolding line-call
-  call-more c ws x p e f g = ap (asked t k) e ∙ ap (λ r. ended k r ws) f ∙ ended-more x ws p g
-    where
-      ended-more : (x : Call Edit) (ws : List Part) (p : ℕ) → over ws ≡ Some p → ended k (Ok x) ws ≡ Err (bad-word k p)
-      ended-more x [] p g = let z : _≡_ {A = ℕ} 0 1 = cc in absurd (omega arith)
-      ended-more x (w ∷ ws) p g = let q : w .place ≡ p = cc in ap (λ y. Err (bad-word k y)) q
+  call-more c ws x p e f g = ap (asked t k) e ∙ ap (λ r. ended k r ws) f ∙ ended-more k x ws p g
 
   pub call-done : (c : Worded) (ws : List Part) (x : Call Edit) → line-command (length l) (words l) ≡ Some (record { command = c; left = ws }) → call-of t c ≡ Ok x → over ws ≡ None → line-call t k l ≡ Ok x
   unfolding line-call
-  call-done c ws x e f g = ap (asked t k) e ∙ ap (λ r. ended k r ws) f ∙ ended-done x ws g
-    where
-      ended-done : (x : Call Edit) (ws : List Part) → over ws ≡ None → ended k (Ok x) ws ≡ Ok x
-      ended-done x [] g = refl
-      ended-done x (w ∷ ws) g = let z : _≡_ {A = ℕ} 0 1 = cc in absurd (omega arith)
+  call-done c ws x e f g = ap (asked t k) e ∙ ap (λ r. ended k r ws) f ∙ ended-done k x ws g
+
+-- the first line, as the code begins it: l′ and a′ are the line and place of its words
+module _ (l l′ : List ℕ) (a′ : ℕ) (line : l′ ≡ l) (start : a′ ≡ 0) {p : Part} {l₁ : List ℕ} {a₁ : ℕ} (off : Off l′ a′ p l₁ a₁) where
+  all : words-left l′ a′ ≡ words l
+  all = ap (λ x. words-left l′ x) start ∙ ap (λ x. words-left x 0) line ∙ all-words l
+
+  head : first (length l) (words l) ≡ p
+  head = let e = all in let n = ap length line in let w = off .word in cc
+
+  pub opens-unknown : None ≡ kind-of (letter-of (p .text)) → opening l ≡ Err (unknown-letter 1)
+  unfolding opening
+  opens-unknown e = ap (λ (q : Part). with-kind (kind-of (letter-of (q .text))) (length l) (rest (words l))) head ∙ ap (λ o. with-kind o (length l) (rest (words l))) (sym e)
+
+  pub opens-known : {q r s t : Part} {l₂ l₃ l₄ l₅ : List ℕ} {a₂ a₃ a₄ a₅ : ℕ} (k : KindLetter) → Some k ≡ kind-of (letter-of (p .text)) → Off l₁ a₁ q l₂ a₂ → Off l₂ a₂ r l₃ a₃ → Off l₃ a₃ s l₄ a₄ → Off l₄ a₄ t l₅ a₅ →
+    opening l ≡ ended 1 (sizes-of k q r s t) (words-left l₅ a₅)
+  unfolding opening
+  opens-known k e o₂ o₃ o₄ o₅ =
+      let whole = all in
+      let n = ap length line in let n₁ = ap length (off .same) in let n₂ = ap length (o₂ .same) in let n₃ = ap length (o₃ .same) in let n₄ = ap length (o₄ .same) in
+      let x₁ = off .left in let x₂ = o₂ .left in let x₃ = o₃ .left in let x₄ = o₄ .left in let x₅ = o₅ .left in
+      let w₂ = o₂ .word in let w₃ = o₃ .word in let w₄ = o₄ .word in let w₅ = o₅ .word in
+      ap (λ (q : Part). with-kind (kind-of (letter-of (q .text))) (length l) (rest (words l))) head ∙ ap (λ o. with-kind o (length l) (rest (words l))) (sym e) ∙ (cc)

@@ -4,8 +4,6 @@
 --     line-command n ws    the same, the letter being the first of the words
 --     call-of t c         the call that a command makes: its words judged from left to right; else the place of the first bad one
 --     line-call t k l     the call that the line l, the k-th, makes; else its refusal
---     Opening             what the first line asks for: a kind, a registry, and three numbers
---     opening l           the first line read; else its refusal
 use mathlib.Core.List.{List, [], _∷_}
 use mathlib.Core.Bool.{cond}
 use Prim.Native.Nat.{ℕ}

@@ -116,7 +116,7 @@ pub fn call_of<K: ScriptKind>(command: Command) -> Result<Call<K::Edit>, usize>
 }
 
 // A word of one byte.
-fn letter_of(text: &[u8]) -> Option<u8>
+pub(crate) fn letter_of(text: &[u8]) -> Option<u8>
     ensures { λ r. ⌜ r ≡ letter-of (now (text .entry)) ⌝ }
 {
     if text.len() == 1 { Some(text[0]) } else { None }

@@ -3,5 +3,6 @@ pub mod command;
 pub mod fault;
 pub mod kinds;
 pub mod number;
+pub mod opening;
 pub mod reader;
 pub mod words;
