@@ -1,3 +1,4 @@
 pub mod Card
+pub mod Counting
 pub mod Times
 pub mod Tokens

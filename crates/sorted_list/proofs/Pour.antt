@@ -41,8 +41,9 @@ times-placed c (e ∷ es) =
     let one = times-placed e es in
     let two = ap (many (e .count) (e .time)) (times-placed c es) ∙ many-many (e .count) (e .time) (c .count) (c .time) (times es) in
     elim (ltb (c .time) (e .time)) as (λ b. times (cond b (c ∷ placed e es) (e ∷ placed c es)) ≡ many (c .count) (c .time) (many (e .count) (e .time) (times es))) [
-      true ↦ ap (many (c .count) (c .time)) one
-    | false ↦ two ]
+      | true ↦ ap (many (c .count) (c .time)) one
+      | false ↦ two
+    ]
 
 pub size-placed : (c : Entry) (es : List Entry) → size (placed c es) ≡ c .count + size es
 size-placed c [] = refl
@@ -171,12 +172,13 @@ bumped xs len i t l h e =
     let e′ : getD es i no-entry .time ≡ t = ap (λ ys. getD ys i no-entry .time) (sym m) ∙ e in
     let n : getD es i no-entry .count ≡ getD xs i no-entry .count = ap (λ (x : Entry). x .count) g in
     let s : take len (set xs i (more xs i t)) ≡ set es i (record { time = t; count = getD es i no-entry .count + 1 }) =
-        take-set-in xs len i (more xs i t) ∙ ap (λ k. set es i (record { time = t; count = k + 1 })) (sym n) in
+    take-set-in xs len i (more xs i t) ∙ ap (λ k. set es i (record { time = t; count = k + 1 })) (sym n) in
     record {
       held = omega (arith, count-le-size es i no-entry h′);
       grown = ap size s ∙ bump-size es i t no-entry h′;
       order = λ r. ap rising s ∙ bump-rising es i (getD es i no-entry .count + 1) t no-entry h′ e′ (omega arith) r;
-      means = ap times s ∙ bump-times es i t (getD es i no-entry .count) no-entry h′ (ap (λ u. record { time = u; count = getD es i no-entry .count }) e′) }
+      means = ap times s ∙ bump-times es i t (getD es i no-entry .count) no-entry h′ (ap (λ u. record { time = u; count = getD es i no-entry .count }) e′);
+    }
 
 pub rising-tail : (e : Entry) (es : List Entry) → rising (e ∷ es) ≡ true → rising es ≡ true
 rising-tail e es r = grind (arith, tells)
@@ -246,9 +248,9 @@ least-behind t u (f ∷ fs) a r =
     let b : ahead (f .time) fs ≡ true = grind (arith, tells) in
     let ih = least-behind t u fs (ahead-less u (f .time) fs q b) (rising-tail f fs r) in
     ⊎-elim
-      (λ lt. ap (sooner (Some u)) (least-skip t (f .count) (f .time) (times fs) lt) ∙ ih)
-      (λ le. ap (sooner (Some u)) (least-entry t f (times fs) p le) ∙ nearer u (f .time) (least t (times fs)) q ∙ ih)
-      (cases-lt (f .time) t)
+    (λ lt. ap (sooner (Some u)) (least-skip t (f .count) (f .time) (times fs) lt) ∙ ih)
+    (λ le. ap (sooner (Some u)) (least-entry t f (times fs) p le) ∙ nearer u (f .time) (least t (times fs)) q ∙ ih)
+    (cases-lt (f .time) t)
 
 pub least-hit : (t : ℕ) (e : Entry) (es : List Entry) → t ≤ e .time → rising (e ∷ es) ≡ true → least t (times (e ∷ es)) ≡ Some (e .time)
 least-hit t e es h r =
@@ -319,14 +321,15 @@ lowered xs len i t l h e c =
     let gy : getD ys i no-entry ≡ low = getD-set-same es i low no-entry h′ in
     let n : low .count + 1 ≡ getD es i no-entry .count = omega (arith, ap (λ (x : Entry). x .count) g) in
     let back : set ys i (record { time = t; count = low .count + 1 }) ≡ es =
-        set-set es i low (record { time = t; count = low .count + 1 })
-        ∙ ap (λ k. set es i (record { time = t; count = k })) n ∙ ap (λ u. set es i (record { time = u; count = getD es i no-entry .count })) (sym e′) ∙ set-getD es i no-entry in
+    set-set es i low (record { time = t; count = low .count + 1 })
+    ∙ ap (λ k. set es i (record { time = t; count = k })) n ∙ ap (λ u. set es i (record { time = u; count = getD es i no-entry .count })) (sym e′) ∙ set-getD es i no-entry in
     let b : insert t (times ys) ≡ times es = sym (bump-times ys i t (low .count) no-entry hy gy) ∙ ap times back in
     let z : size es ≡ size ys + 1 = ap size (sym back) ∙ ap (λ k. size (set ys i (record { time = t; count = k + 1 }))) (sym (ap (λ (x : Entry). x .count) gy)) ∙ bump-size ys i t no-entry hy in
     record {
       shrunk = omega (arith, ap size s);
       order = λ r. ap rising s ∙ bump-rising es i (low .count) t no-entry h′ e′ (omega arith) r;
-      means = ap times s ∙ sym (delete-insert t (times ys)) ∙ ap (delete t) b }
+      means = ap times s ∙ sym (delete-insert t (times ys)) ∙ ap (delete t) b;
+    }
 
 pub holds : (es : List Entry) (i t : ℕ) → i < length es → getD es i no-entry .time ≡ t → rising es ≡ true → 0 < count t (times es)
 holds [] i t h e r = absurd (omega arith)

@@ -37,17 +37,26 @@ pub impl Registry for SortedList as SortedListRegistry {
     }
 
     fn empty() -> SortedList {
-        SortedList { entries: [Entry { time: 0, count: 0 }; PLACES], len: 0 }
+        SortedList {
+            entries: [Entry { time: 0, count: 0 }; PLACES],
+            len: 0,
+        }
     }
 
     fn add(&mut self, time: u32) -> Result<(), RegistryFault> {
         if self.total() >= Self::CAPACITY {
-            return Err(RegistryFault { cause: RegistryCause::Full, place: Self::CAPACITY });
+            return Err(RegistryFault {
+                cause: RegistryCause::Full,
+                place: Self::CAPACITY,
+            });
         }
         match entry::place_of(&self.entries[0..self.len], time) {
             Some(i) => {
                 let old = self.entries[i];
-                self.entries[i] = Entry { time, count: old.count + 1 };
+                self.entries[i] = Entry {
+                    time,
+                    count: old.count + 1,
+                };
             }
             None => {
                 shift::put_in(&mut self.entries, self.len, Entry { time, count: 1 });
@@ -59,11 +68,17 @@ pub impl Registry for SortedList as SortedListRegistry {
 
     fn remove(&mut self, time: u32) -> Result<(), RegistryFault> {
         let Some(i) = entry::place_of(&self.entries[0..self.len], time) else {
-            return Err(RegistryFault { cause: RegistryCause::NoneOpen, place: time });
+            return Err(RegistryFault {
+                cause: RegistryCause::NoneOpen,
+                place: time,
+            });
         };
         let old = self.entries[i];
         if old.count > 1 {
-            self.entries[i] = Entry { time, count: old.count - 1 };
+            self.entries[i] = Entry {
+                time,
+                count: old.count - 1,
+            };
         } else {
             shift::take_out(&mut self.entries, self.len, i);
             self.len -= 1;

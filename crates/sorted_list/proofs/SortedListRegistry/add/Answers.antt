@@ -52,10 +52,13 @@ ghost-self-in-None c =
     let p = ap size (c .put-in .ensures) ∙ size-placed e es in
     let a : absent (c .args .time) es ≡ true = ap (absent (c .args .time)) (sym (mid-all (s .entries) (s .len))) ∙ c .in-None .ensures tt in
     let w : s .len + 1 ≤ 32 = omega (arith, c .total .ensures, c .if-total-ge-CAPACITY .left) in
-    let few : size es + 1 ≤ 32 = omega (arith, c .total .ensures, c .if-total-ge-CAPACITY .left) in
-    (w,
-     (omega (arith, p, few),
-      (ap rising (c .put-in .ensures) ∙ rising-placed e es (omega arith) (s .ordered) a, tt)))
+    let few : size es + 1 ≤ 32 = omega (arith, c .total .ensures, c .if-total-ge-CAPACITY .left) in (
+      w,
+      (
+        omega (arith, p, few),
+        (ap rising (c .put-in .ensures) ∙ rising-placed e es (omega arith) (s .ordered) a, tt),
+      ),
+    )
 
 pub returns-in-Some : need.returns-in-Some
 returns-in-Some c =

@@ -40,6 +40,7 @@ pub returns-else-old-gt1 : need.returns-else-old-gt1
 returns-else-old-gt1 c =
     let s = c .args .self .now in
     let f = c .in-Some .ensures tt in
-    let w : s .len ≤ length (s .entries) = omega (arith, s .within) in
-    (holds-mid (s .entries) (s .len) (c .in-Some .i) (c .args .time) (f .0) (f .1) (s .ordered),
-     ap times (c .take-out .ensures) ∙ out-means (s .entries) (s .len) (c .in-Some .i) (c .args .time) w (f .0) (f .1) (c .if-old-gt1 .left) (s .ordered))
+    let w : s .len ≤ length (s .entries) = omega (arith, s .within) in (
+      holds-mid (s .entries) (s .len) (c .in-Some .i) (c .args .time) (f .0) (f .1) (s .ordered),
+      ap times (c .take-out .ensures) ∙ out-means (s .entries) (s .len) (c .in-Some .i) (c .args .time) w (f .0) (f .1) (c .if-old-gt1 .left) (s .ordered),
+    )

@@ -25,10 +25,11 @@ loop-e-again c =
     let i = c .loop-e .e-index in
     let h = c .loop-e-test .taken in
     let d = no-entry in
-    let r = sym (at-drop-more rising es i d h) ∙ c .loop-e .inv .1 in
-    (sym (least-skip (c .args .time) (getD es i d .count) (getD es i d .time) (times (drop (i + 1) es)) (c .if-time-e .left))
-     ∙ sym (at-drop-more (λ ys. least (c .args .time) (times ys)) es i d h) ∙ c .loop-e .inv .0,
-     rising-tail (getD es i d) (drop (i + 1) es) r)
+    let r = sym (at-drop-more rising es i d h) ∙ c .loop-e .inv .1 in (
+      sym (least-skip (c .args .time) (getD es i d .count) (getD es i d .time) (times (drop (i + 1) es)) (c .if-time-e .left))
+          ∙ sym (at-drop-more (λ ys. least (c .args .time) (times ys)) es i d h) ∙ c .loop-e .inv .0,
+      rising-tail (getD es i d) (drop (i + 1) es) r,
+    )
 
 pub returns : need.returns
 returns c =

@@ -22,8 +22,9 @@ loop-k-again c =
     let room : len ≤ length xs = omega arith in
     let d = no-entry in
     elim (c .if-carry-old .came) [
-      then-carry-old w ↦ same len (k + 1) _ _ _ _ (w .entries-is) (w .carry-is) ∙ sym (turn-here xs len k (c .loop-k .carry) d h room (w .if-carry-old .taken)) ∙ c .loop-k .inv
-    | else-carry-old w ↦ same len (k + 1) _ _ _ _ (w .entries-is) (w .carry-is) ∙ sym (turn-on xs len k (c .loop-k .carry) d h room (w .if-carry-old .left)) ∙ c .loop-k .inv ]
+      | then-carry-old w ↦ same len (k + 1) _ _ _ _ (w .entries-is) (w .carry-is) ∙ sym (turn-here xs len k (c .loop-k .carry) d h room (w .if-carry-old .taken)) ∙ c .loop-k .inv
+      | else-carry-old w ↦ same len (k + 1) _ _ _ _ (w .entries-is) (w .carry-is) ∙ sym (turn-on xs len k (c .loop-k .carry) d h room (w .if-carry-old .left)) ∙ c .loop-k .inv
+    ]
 
 pub returns : need.returns
 returns c =
