@@ -3,5 +3,6 @@
 pub mod counting;
 pub mod fault;
 pub mod registry;
+pub mod show;
 pub mod token;
 pub mod writing;
