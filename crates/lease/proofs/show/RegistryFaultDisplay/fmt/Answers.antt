@@ -10,6 +10,6 @@ pub returns : need.returns
 returns g c =
     let fault = c .args .self .now in
     let e =
-        ap (λ n. spaced (decimal n) (spaced (layer-letter (c .layer-layer .result)) (decimal (fault .place)))) (c .number-number .ensures)
-        ∙ ap (λ y. spaced (decimal (cause-number (fault .cause))) (spaced (layer-letter y) (decimal (fault .place)))) (c .layer-layer .ensures) in
+    ap (λ n. spaced (decimal n) (spaced (layer-letter (c .layer-layer .result)) (decimal (fault .place)))) (c .number-number .ensures)
+    ∙ ap (λ y. spaced (decimal (cause-number (fault .cause))) (spaced (layer-letter y) (decimal (fault .place)))) (c .layer-layer .ensures) in
     λ p k. let P : List ℕ → Type 0 = λ bs. Put (g .W·Write .took) (c .args .f .now) bs (c .write .last .self) in subst P e (c .write .ensures .shows p k)
