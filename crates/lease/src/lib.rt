@@ -2,7 +2,7 @@
 // and what every registry does to the numbers of open leases.
 pub mod counting;
 pub mod fault;
+pub mod leasing;
 pub mod registry;
 pub mod show;
 pub mod token;
-pub mod writing;

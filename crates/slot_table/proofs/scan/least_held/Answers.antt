@@ -22,7 +22,7 @@ loop-slot-again c =
       | in-Some·then-time-held·in-Some-best w ↦
           let e = least-some t xs i (w .in-Some .held) h (w .in-Some .is) (w .if-time-held .taken) in
           let a = sooner-assoc (Some (w .in-Some-best .sooner)) (Some (w .in-Some .held)) (least t (taken (drop (i + 1) xs))) in
-          let m : c .match-slot .best ≡ sooner (Some (w .in-Some-best .sooner)) (Some (w .in-Some .held)) = w .best-is ∙ ap (λ n. Some n) (w .min .ensures) in
+          let m : c .match-slot .best ≡ sooner (Some (w .in-Some-best .sooner)) (Some (w .in-Some .held)) = w .best-is ∙ ap (λ n. Some n) (w .nearer .ensures) in
           cc
       | in-Some·then-time-held·in-None w ↦
           first-step _ _ _ _ _ (w .in-Some .held) (w .in-None .is) (w .best-is) (least-some t xs i (w .in-Some .held) h (w .in-Some .is) (w .if-time-held .taken)) inv
