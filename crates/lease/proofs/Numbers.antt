@@ -6,7 +6,6 @@ use mathlib.Core.Logic.{⊎-elim}
 use Prim.Native.Nat.{ℕ, _+_, _<_, _≤_, min}
 use native.Mathlib.Omega.{arith}
 use lib.ListN.{length}
-use lib.Dec.{leb, eqb}
 use Rattle.std.proofs.shelf.Tests.{cases-lt, lt-leb, le-leb}
 use Rattle.std.proofs.shelf.Ways.{tells}
 use Rattle.std.specs.declared.option.Option.{Option}
@@ -14,7 +13,7 @@ use Rattle.std.specs.declared.option.Option.the-variants.{Some, None}
 use Rattle.std.specs.declared.result.Result.{Result}
 use Rattle.std.specs.declared.result.Result.the-variants.{Ok, Err}
 use Rattle.lease.specs.declared.fault.RegistryFault.{RegistryFault}
-use Rattle.lease.specs.Times.{insert, delete, count, least, sooner, Added, Removed}
+use Rattle.lease.specs.Times.{delete, count, least, sooner, Added, Removed}
 use Rattle.lease.specs.Counting.{Opened, Ended, FirstFrom}
 use Rattle.lease.proofs.Bags.{count-insert, length-insert}
 

@@ -1,10 +1,10 @@
-use mathlib.Core.Path.{_≡_, refl, sym, ap, _∙_}
+use mathlib.Core.Path.{_≡_, sym, ap, _∙_}
 use Prim.Native.Nat.{_+_}
 use lib.ListN.{drop}
 use Rattle.slot_table.specs.Slots.{taken}
 use native.Mathlib.Omega.{arith}
 use Rattle.std.proofs.shelf.Ways.{tells}
-use Rattle.std.specs.declared.option.Option.the-variants.{Some, None}
+use Rattle.std.specs.declared.option.Option.the-variants.{Some}
 use Rattle.lease.specs.Times.{least, sooner}
 use Rattle.slot_table.proofs.Filling.{taken-some, taken-none, taken-all, least-some, first-step}
 use Rattle.lease.proofs.Bags.{sooner-assoc, sooner-none}

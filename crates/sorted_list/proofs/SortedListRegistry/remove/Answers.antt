@@ -1,10 +1,12 @@
-use mathlib.Core.Path.{_≡_, refl, sym, ap, _∙_}
-use mathlib.Core.Bool.{true}
-use Prim.Native.Nat.{_+_, _-_, _≤_, _<_}
+use mathlib.Core.Path.{refl, sym, ap, _∙_}
+use Prim.Native.Nat.{_-_, _≤_}
 use native.Mathlib.Omega.{arith}
-use lib.ListN.{take, length, getD}
+use lib.ListN.{take, length}
 use Rattle.sorted_list.specs.Entries.{times, size, rising, absent}
-use Rattle.sorted_list.proofs.Pour.{mid-all, count-absent, lowered, holds-mid, out-size, out-rising, out-means}
+use Rattle.sorted_list.proofs.Places.{mid-all}
+use Rattle.sorted_list.proofs.Meaning.{count-absent}
+use Rattle.sorted_list.proofs.Changing.{lowered}
+use Rattle.sorted_list.proofs.Taking.{holds-mid, out-size, out-rising, out-means}
 use Rattle.sorted_list.proofs.SortedListRegistry.remove.Needs as need
 
 pub returns-in-rest : need.returns-in-rest

@@ -1,12 +1,10 @@
-use mathlib.Core.Path.{_≡_, refl, sym, ap, _∙_}
-use mathlib.Core.Bool.{true}
+use mathlib.Core.Path.{sym, _∙_}
 use Prim.Native.Nat.{_+_}
 use lib.ListN.{getD, drop}
 use Rattle.std.proofs.shelf.Lists.{at-drop-more, at-drop-all}
 use Rattle.lease.specs.Times.{least}
-use Rattle.sorted_list.specs.declared.entry.Entry.{Entry}
 use Rattle.sorted_list.specs.Entries.{times, rising, no-entry}
-use Rattle.sorted_list.proofs.Pour.{rising-tail, least-hit, least-skip}
+use Rattle.sorted_list.proofs.Meaning.{rising-tail, least-hit, least-skip}
 use Rattle.sorted_list.proofs.entry.first_from.Needs as need
 
 pub returns-then-time-e : need.returns-then-time-e

@@ -1,11 +1,11 @@
-use mathlib.Core.Path.{_≡_, refl, sym, ap, _∙_}
+use mathlib.Core.Path.{_≡_, sym, ap, _∙_}
 use mathlib.Core.List.{List, _++_}
 use Prim.Native.Nat.{ℕ, _+_, _≤_}
 use lib.ListN.{length, take, drop}
 use native.Mathlib.Omega.{arith}
 use Rattle.sorted_list.specs.declared.entry.Entry.{Entry}
 use Rattle.sorted_list.specs.Entries.{placed, no-entry}
-use Rattle.sorted_list.proofs.Pour.{turn-on, turn-here, last-turn}
+use Rattle.sorted_list.proofs.Placing.{turn-on, turn-here, last-turn}
 use Rattle.sorted_list.proofs.shift.put_in.Needs as need
 use Rattle.sorted_list.proofs.shift.put_in.Needs.{then-carry-old, else-carry-old}
 
