@@ -5,3 +5,4 @@ pub mod Room
 pub mod Simulation
 pub mod Determining
 pub mod Wrongs
+pub mod Refusals

@@ -15,7 +15,6 @@ use Rattle.std.specs.declared.option.Option.{Option}
 use Rattle.std.specs.declared.option.Option.the-variants.{Some, None}
 use Rattle.kind.specs.Kinds.{Ops, Laws}
 use Rattle.lease.specs.Times.{count, insert, delete, opens}
-use Rattle.lease.specs.Card.{none-open, full}
 use Rattle.lease.specs.declared.fault.Layer.{Layer}
 use Rattle.chain.specs.declared.version.Version.{Version}
 use Rattle.chain.specs.Versions.{Open}
@@ -26,10 +25,10 @@ use Rattle.history.specs.declared.call.Outcome.{Outcome}
 use Rattle.history.specs.declared.call.Outcome.the-variants.{Opened, Shown, Closed, Began, Changed, Committed, Abandoned, Held, Kept, InUse, Refused}
 use Rattle.history.specs.declared.fault.StoreFault.{StoreFault}
 use Rattle.history.specs.declared.fault.StoreCause.the-variants.{HeldByOther, RowNewer, VersionsUsed}
-use Rattle.history.specs.Card.{fault-number, fault-layer, raised}
+use Rattle.history.specs.Card.{fault-number, fault-layer}
 use Rattle.history.specs.History.{Hold, free, held, Record, History, limit, who, held-by, count-held, at-or, change-at, holders, new-record, new-history, record-of, past, sees-under, change-record, finish-record, free-record, closed-at}
 use Rattle.history.specs.Law.{Told, Asked, plain, Free, By-other, is-held, times, Each-held, says, Check, refuses, passes, no-such-record, no-lease-open, leases-full, too-short, Needed, none-needed, more-needed, keeps, Answers, Run, AllRight, Law}
-use Rattle.history.specs.Model.{Stored, Model, Step, by-other, is-free, in-use, owners, held-number, held-from, kept-chains, or-else, no-record, clock-limit, list-short, refused-own, new-stored, new-model, record-at, finished-row, reading, looks, pruned, change-stored, finish-stored, free-stored, all-pruned, committed, does, decide, ends, step, outcomes, model-after, leases-after, Model-lawful}
+use Rattle.history.specs.Model.{Stored, Model, Step, by-other, is-free, in-use, owners, held-number, held-from, kept-chains, or-else, no-record, no-lease, leases-used, clock-limit, list-short, refused-own, new-stored, new-model, record-at, finished-row, reading, looks, pruned, change-stored, finish-stored, free-stored, all-pruned, committed, does, decide, ends, step, outcomes, model-after, leases-after, Model-lawful}
 use Rattle.history.proofs.Counts.{insert-cases, insert-keeps, delete-sub, held-length, held-once}
 use Rattle.history.proofs.Rights.{right-row}
 use Rattle.history.proofs.Room.{map-cost, pruned-cost, finish-cost, free-cost, change-cost, new-empty, needed-one}
@@ -206,14 +205,14 @@ module _ {Row Edit Change : Type 0} (k : Ops Row Edit Change) where
           let e = ties-length (opens ls) (m .clock) fs (m .records) (z .ties) in
           checked (no-record i) (leb (length (m .records)) i) (λ b. omega (arith, leb-true (length (m .records)) i b)) (λ b f. omega (arith, leb-false (length (m .records)) i b)) (λ b. rest (leb-false (length (m .records)) i b))
 
-      lease-check : {P : Told Row → History Row → Type 0} {st : Step Row Change} {o : Option StoreFault} (t : ℕ) → (Open (opens ls) t → Decided room P m ls o st) → Decided room (no-lease-open (hist m ls fs) t P) m ls (or-else (eqb (count t ls) 0) (raised (none-open t)) o) st
-      lease-check t rest = checked (raised (none-open t)) (eqb (count t ls) 0) (eqb-true (count t ls) 0) (eqb-false (count t ls) 0) (λ b. rest (some (eqb-false (count t ls) 0 b)))
+      lease-check : {P : Told Row → History Row → Type 0} {st : Step Row Change} {o : Option StoreFault} (t : ℕ) → (Open (opens ls) t → Decided room P m ls o st) → Decided room (no-lease-open (hist m ls fs) t P) m ls (or-else (eqb (count t ls) 0) (no-lease t) o) st
+      lease-check t rest = checked (no-lease t) (eqb (count t ls) 0) (eqb-true (count t ls) 0) (eqb-false (count t ls) 0) (λ b. rest (some (eqb-false (count t ls) 0 b)))
         where
           some : (count t ls ≡ 0 → ⊥) → 0 < count t ls
           some n = omega arith
 
-      full-check : {P : Told Row → History Row → Type 0} {st : Step Row Change} → Met room P st → Decided room (leases-full (hist m ls fs) cap P) m ls (or-else (eqb (length ls) cap) (raised (full cap)) None) st
-      full-check rest = checked (raised (full cap)) (eqb (length ls) cap) (eqb-true (length ls) cap) (eqb-false (length ls) cap) (λ _. accepted rest)
+      full-check : {P : Told Row → History Row → Type 0} {st : Step Row Change} → Met room P st → Decided room (leases-full (hist m ls fs) cap P) m ls (or-else (eqb (length ls) cap) (leases-used cap) None) st
+      full-check rest = checked (leases-used cap) (eqb (length ls) cap) (eqb-true (length ls) cap) (eqb-false (length ls) cap) (λ _. accepted rest)
 
       tied-at : (i : ℕ) → i < length (m .records) → Tied k (opens ls) (m .clock) (at-or (new-record k 0) fs i) (record-at k m i)
       tied-at i h = ties-get (opens ls) (m .clock) fs (m .records) i (z .ties) h

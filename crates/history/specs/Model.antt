@@ -80,6 +80,12 @@ or-else b f o = cond b (Some f) o
 abbrev pub no-record : ℕ → StoreFault
 no-record i = record { cause = NoRecord; place = i }
 
+abbrev pub no-lease : ℕ → StoreFault
+no-lease t = raised (none-open t)
+
+abbrev pub leases-used : ℕ → StoreFault
+leases-used cap = raised (full cap)
+
 abbrev pub clock-limit : ℕ → StoreFault
 clock-limit t = record { cause = ClockLimit; place = t }
 
@@ -92,11 +98,11 @@ refused-record m i o = or-else (leb (length (m .records)) i) (no-record i) o
 
 -- 4, then the rest
 abbrev pub refused-lease : List ℕ → ℕ → Option StoreFault → Option StoreFault
-refused-lease ls t o = or-else (eqb (count t ls) 0) (raised (none-open t)) o
+refused-lease ls t o = or-else (eqb (count t ls) 0) (no-lease t) o
 
 -- 8
 abbrev pub refused-open : ℕ → List ℕ → Option StoreFault
-refused-open cap ls = or-else (eqb (length ls) cap) (raised (full cap)) None
+refused-open cap ls = or-else (eqb (length ls) cap) (leases-used cap) None
 
 -- 3, 4: a time and a record
 abbrev pub refused-read : {Row Change : Type 0} → Model Row Change → List ℕ → ℕ → ℕ → Option StoreFault

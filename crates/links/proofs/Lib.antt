@@ -2,5 +2,6 @@ pub mod Cut
 pub mod CutSteps
 pub mod Fresh
 pub mod Linked
+pub mod Places
 pub mod Steps
 pub mod Ways

@@ -102,6 +102,10 @@ pub row-in : (l : Links) (r : ℕ) → r < length (slots l) → r < length (l .h
 unfolding slots
 row-in l r h = rw (length-map (l .heads .items) (walk (l .next .items) (length (l .next .items)))) at h
 
+pub rows-are : (l : Links) → length (slots l) ≡ length (l .heads .items)
+unfolding slots
+rows-are l = length-map (l .heads .items) (walk (l .next .items) (length (l .next .items)))
+
 pub take-in : (l : Links) (r s : ℕ) → r < length (slots l) → l .free ≡ Some s → Taken (l .next .items) (l .heads .items) (l .used) r s (getD (l .next .items) s None) (getD (l .heads .items) r None)
 take-in l r s h e = take-step (l .next .items) (l .heads .items) (l .free) (l .used) r s (l .sound) (l .counted) (row-in l r h) e
 
@@ -125,21 +129,12 @@ full-is l e =
     let n : length (walk (l .next .items) (length (l .next .items)) (l .free)) ≡ 0 = ap length w in
     omega (arith, u, n, l .counted)
 
-pub give-in : (l : Links) (r s : ℕ) (o : Option ℕ) → r < length (slots l) → o ≡ getD (l .heads .items) r o → o ≡ Some s → Given (l .next .items) (l .heads .items) (l .free) (l .used) r s (getD (l .next .items) s None)
-give-in l r s o h eo e = give-step (l .next .items) (l .heads .items) (l .free) (l .used) r s (l .sound) (l .counted) (row-in l r h) (sym (getD-read (l .heads .items) r o (row-in l r h) eo None) ∙ e)
+pub give-in : (l : Links) (r s : ℕ) → r < length (slots l) → getD (l .heads .items) r None ≡ Some s → Given (l .next .items) (l .heads .items) (l .free) (l .used) r s (getD (l .next .items) s None)
+give-in l r s h e = give-step (l .next .items) (l .heads .items) (l .free) (l .used) r s (l .sound) (l .counted) (row-in l r h) e
 
-pub give-read : (l : Links) (r s : ℕ) (o t : Option ℕ) → r < length (slots l) → o ≡ getD (l .heads .items) r o → o ≡ Some s → t ≡ getD (l .next .items) s t → Given (l .next .items) (l .heads .items) (l .free) (l .used) r s t
-give-read l r s o t h eo e et =
-    let k = give-in l r s o h eo e in
+pub give-read : (l : Links) (r s : ℕ) (t : Option ℕ) → r < length (slots l) → getD (l .heads .items) r None ≡ Some s → t ≡ getD (l .next .items) s t → Given (l .next .items) (l .heads .items) (l .free) (l .used) r s t
+give-read l r s t h e et =
+    let k = give-in l r s h e in
     let nt : t ≡ getD (l .next .items) s None = getD-read (l .next .items) s t (k .inside) et None in
     let P : Option ℕ → Type 0 = λ x. Given (l .next .items) (l .heads .items) (l .free) (l .used) r s x in
     subst P (sym nt) k
-
-pub empty-is : (l : Links) (r : ℕ) (o : Option ℕ) → r < length (slots l) → o ≡ getD (l .heads .items) r o → o ≡ None → getD (slots l) r [] ≡ []
-unfolding slots
-empty-is l r o h eo e =
-    let lr = row-in l r h in
-    let lj : suc r < length (l .free ∷ l .heads .items) = omega arith in
-    let P : Option ℕ → Type 0 = λ x. Run (l .next .items) x (getD (walks (l .next .items) (l .heads .items)) r []) in
-    let q : getD (l .heads .items) r None ≡ None = sym (getD-read (l .heads .items) r o lr eo None) ∙ e in
-    run-none (l .next .items) _ (subst P q (inv-from (l .next .items) (l .free ∷ l .heads .items) (l .sound) .runs (suc r) lj))

@@ -54,6 +54,10 @@ pub from-none : (l : Links) → from l None ≡ []
 unfolding from
 from-none l = run-walk (l .next .items) (length (l .next .items)) [] None tt (omega arith)
 
+pub none-onto : (l : Links) → Onto l None
+unfolding Onto
+none-onto l = run-good (l .next .items) (length (l .next .items)) [] None tt (omega arith)
+
 pub first-onto : (l : Links) (r : ℕ) (o : Option ℕ) → r < length (slots l) → o ≡ getD (l .heads .items) r o → Onto l o
 unfolding Onto
 first-onto l r o h e =

@@ -6,6 +6,9 @@ use Rattle.links.specs.declared.table.Links.{Links}
 use mathlib.Core.Path.{_≡_}
 use mathlib.Core.Bool.{true}
 use Rattle.std.specs.declared.option.Option.{Option}
+use Rattle.std.specs.declared.option.Option.the-variants.{None}
+use Rattle.std.specs.shelf.Maps.{nth}
+use Prim.Native.Nat.{zero, suc}
 use Rattle.links.specs.Walk.{walk, good, walks}
 
 -- the lists, each from its front
@@ -22,3 +25,8 @@ from l o = walk (vec-items (l .next)) (length (vec-items (l .next))) o
 
 unfoldable pub Onto : Links → Option ℕ → Type 0
 Onto l o = good (vec-items (l .next)) (length (vec-items (l .next))) o ≡ true
+
+-- the link to the slot before the place k of a list, if there is one
+abbrev pub before : List ℕ → ℕ → Option ℕ
+before L zero = None
+before L (suc k) = nth L k

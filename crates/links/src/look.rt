@@ -1,21 +1,26 @@
 // Walking a list, slot by slot.
 ghost use mathlib.Core.Path.{_≡_};
 ghost use mathlib.Core.List.{[], _∷_};
-ghost use Prim.Native.Nat.{_<_};
+ghost use Prim.Native.Nat.{_+_, _<_};
 ghost use lib.ListN.{length, getD};
 ghost use Rattle.std.specs.declared.option.Option.the-variants.{Some};
 ghost use Rattle.std.specs.shelf.Lists.{sumBy};
+ghost use Rattle.std.specs.shelf.Maps.{nth};
 ghost use Rattle.links.specs.Meaning.{slots, size, from, Onto};
 use crate::table::Links;
 
 impl Links {
-    /// Where the list r begins.
+    // The link to the first place of the list r; none where there is no such list.
     pub fn first(&self, r: usize) -> Option<u16>
-        requires { ⌜ r < length (slots (now self)) ⌝ }
         ensures onto { λ o. ⌜ Onto (now (self .entry)) o ⌝ }
         ensures list { λ o. ⌜ from (now (self .entry)) o ≡ getD (slots (now (self .entry))) r [] ⌝ }
+        ensures head { λ o. ⌜ o ≡ nth (getD (slots (now (self .entry))) r []) 0 ⌝ }
     {
-        self.heads[r]
+        if r < self.heads.len() {
+            self.heads[r]
+        } else {
+            None
+        }
     }
 
     /// What follows the slot s of a list.
@@ -26,6 +31,17 @@ impl Links {
         ensures inside { λ _. ⌜ s < size (now (self .entry)) ⌝ }
     {
         self.next[s as usize]
+    }
+
+    // The link from the place k of the list r to the next place; `at` is the link to the place k.
+    pub fn follow(&self, r: usize, k: usize, at: Option<u16>) -> Option<u16>
+        requires { ⌜ at ≡ nth (getD (slots (now self)) r []) k ⌝ }
+        ensures { λ o. ⌜ o ≡ nth (getD (slots (now (self .entry))) r []) (k + 1) ⌝ }
+    {
+        match at {
+            None => None,
+            Some(s) => self.next[s as usize],
+        }
     }
 
     /// The slots in use.

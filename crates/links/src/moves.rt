@@ -6,17 +6,19 @@ ghost use lib.ListN.{length, getD, set, take, drop};
 ghost use Rattle.std.specs.Options.{Cases};
 ghost use Rattle.std.specs.shelf.Lists.{sumBy};
 ghost use Rattle.links.specs.Walk.{count};
-ghost use Rattle.links.specs.Meaning.{slots, size};
+ghost use Rattle.links.specs.Meaning.{slots, size, before};
 use crate::table::Links;
 
 impl Links {
-    /// A slot that is in no list goes to the front of the list r.
+    // A free slot goes to the front of the list r; none where no slot is free, or there is no such list.
     pub fn take(&mut self, r: usize) -> Option<u16>
-        requires { ⌜ r < length (slots (now self)) ⌝ }
         ensures size { λ _. ⌜ size (now (self .exit)) ≡ size (now (self .entry)) ⌝ }
-        ensures taken { λ o. ⌜ Cases o ((slots (now (self .exit)) ≡ slots (now (self .entry))) × (sumBy length (slots (now (self .entry))) ≡ size (now (self .entry))))
-            (λ s. (slots (now (self .exit)) ≡ set (slots (now (self .entry))) r (s ∷ getD (slots (now (self .entry))) r [])) × (s < size (now (self .entry))) × (sumBy (count s) (slots (now (self .entry))) ≡ 0)) ⌝ }
+        ensures taken { λ o. ⌜ Cases o ((slots (now (self .exit)) ≡ slots (now (self .entry))) × (r < length (slots (now (self .entry))) → sumBy length (slots (now (self .entry))) ≡ size (now (self .entry))))
+            (λ s. (slots (now (self .exit)) ≡ set (slots (now (self .entry))) r (s ∷ getD (slots (now (self .entry))) r [])) × (s < size (now (self .entry))) × (sumBy (count s) (slots (now (self .entry))) ≡ 0) × (r < length (slots (now (self .entry))))) ⌝ }
     {
+        if self.heads.len() <= r {
+            return None;
+        }
         match self.free {
             None => None,
             Some(s) => {
@@ -30,14 +32,13 @@ impl Links {
         }
     }
 
-    /// The front slot of the list r leaves it.
+    // The front slot of the list r leaves it; none where there is none, or no such list.
     pub fn give(&mut self, r: usize) -> Option<u16>
-        requires { ⌜ r < length (slots (now self)) ⌝ }
         ensures size { λ _. ⌜ size (now (self .exit)) ≡ size (now (self .entry)) ⌝ }
         ensures given { λ o. ⌜ Cases o ((slots (now (self .exit)) ≡ slots (now (self .entry))) × (getD (slots (now (self .entry))) r [] ≡ []))
             (λ s. (slots (now (self .exit)) ≡ set (slots (now (self .entry))) r (drop 1 (getD (slots (now (self .entry))) r []))) × (getD (slots (now (self .entry))) r [] ≡ s ∷ drop 1 (getD (slots (now (self .entry))) r [])) × (s < size (now (self .entry)))) ⌝ }
     {
-        match self.heads[r] {
+        match self.first(r) {
             None => None,
             Some(s) => {
                 let i = s as usize;
@@ -51,7 +52,7 @@ impl Links {
     }
 
     /// The slot after p, which is the k-th of the list r, leaves the list.
-    pub fn cut_after(&mut self, r: usize, k: usize, p: u16) -> Option<u16>
+    fn cut_after(&mut self, r: usize, k: usize, p: u16) -> Option<u16>
         requires row { ⌜ r < length (slots (now self)) ⌝ }
         requires place { ⌜ (k < length (getD (slots (now self)) r [])) × (getD (getD (slots (now self)) r []) k 0 ≡ p) ⌝ }
         ensures size { λ _. ⌜ size (now (self .exit)) ≡ size (now (self .entry)) ⌝ }
@@ -72,9 +73,25 @@ impl Links {
         }
     }
 
-    /// Each slot of the list r leaves it.
+    // The place k of the list r leaves it; `link` leads to the place before it, if there is one.
+    pub fn cut(&mut self, r: usize, k: usize, link: Option<u16>)
+        requires inside { ⌜ k < length (getD (slots (now self)) r []) ⌝ }
+        requires before { ⌜ link ≡ before (getD (slots (now self)) r []) k ⌝ }
+        ensures size { λ _. ⌜ size (now (self .exit)) ≡ size (now (self .entry)) ⌝ }
+        ensures cut { λ _. ⌜ slots (now (self .exit)) ≡ set (slots (now (self .entry))) r (take k (getD (slots (now (self .entry))) r []) ++ drop (k + 1) (getD (slots (now (self .entry))) r [])) ⌝ }
+    {
+        match link {
+            None => {
+                let _front = self.give(r);
+            }
+            Some(p) => {
+                let _cut = self.cut_after(r, k - 1, p);
+            }
+        }
+    }
+
+    // Each slot of the list r leaves it.
     pub fn clear(&mut self, r: usize)
-        requires { ⌜ r < length (slots (now self)) ⌝ }
         ensures size { λ _. ⌜ size (now (self .exit)) ≡ size (now (self .entry)) ⌝ }
         ensures cleared { λ _. ⌜ slots (now (self .exit)) ≡ set (slots (now (self .entry))) r [] ⌝ }
     {

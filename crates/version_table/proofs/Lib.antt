@@ -1,4 +1,3 @@
+pub mod Cursors
 pub mod Picks
-pub mod Readings
-pub mod Removes
-pub mod Shapes
+pub mod Turns

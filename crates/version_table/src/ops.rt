@@ -1,6 +1,6 @@
 ghost use mathlib.Core.Path.{_≡_};
 ghost use mathlib.Core.List.{List, [], _∷_, _++_};
-ghost use mathlib.Core.Bool.{Bool, true, false, cond};
+ghost use mathlib.Core.Bool.{cond, _&&_};
 ghost use Prim.Native.Nat.{ℕ, _+_, _-_, _*_, _<_, _≤_};
 ghost use lib.Dec.{leb, ltb};
 ghost use lib.ListN.{length, getD, set, drop, take, replicate};
@@ -54,11 +54,10 @@ impl<C: Copy> VersionTable<C> {
         self.versions.len() <= self.links.used()
     }
 
-    /// A version in front of the chain r, unless the table is full.
+    // A version in front of the chain r: false where the table is full, or there is no such chain.
     pub fn push(&mut self, r: usize, version: Version<C>) -> bool
-        requires { ⌜ r < length (chains (now self)) ⌝ }
         ensures room { λ _. ⌜ capacity (now (self .exit)) ≡ capacity (now (self .entry)) ⌝ }
-        ensures done { λ ok. ⌜ ok ≡ ltb (sumBy length (chains (now (self .entry)))) (capacity (now (self .entry))) ⌝ }
+        ensures done { λ ok. ⌜ ok ≡ (ltb r (length (chains (now (self .entry)))) && ltb (sumBy length (chains (now (self .entry)))) (capacity (now (self .entry)))) ⌝ }
         ensures pushed { λ ok. ⌜ chains (now (self .exit)) ≡ cond ok (set (chains (now (self .entry))) r (version ∷ getD (chains (now (self .entry))) r [])) (chains (now (self .entry))) ⌝ }
     {
         match self.links.take(r) {
@@ -72,7 +71,6 @@ impl<C: Copy> VersionTable<C> {
 
     /// The version in front of the chain r leaves it.
     pub fn pop(&mut self, r: usize) -> Option<Version<C>>
-        requires { ⌜ r < length (chains (now self)) ⌝ }
         ensures room { λ _. ⌜ capacity (now (self .exit)) ≡ capacity (now (self .entry)) ⌝ }
         ensures popped { λ o. ⌜ Cases o ((chains (now (self .exit)) ≡ chains (now (self .entry))) × (getD (chains (now (self .entry))) r [] ≡ []))
             (λ v. (chains (now (self .exit)) ≡ set (chains (now (self .entry))) r (drop 1 (getD (chains (now (self .entry))) r []))) × (getD (chains (now (self .entry))) r [] ≡ v ∷ drop 1 (getD (chains (now (self .entry))) r []))) ⌝ }
@@ -85,21 +83,13 @@ impl<C: Copy> VersionTable<C> {
 
     /// The newest version of the chain r.
     pub fn front(&self, r: usize) -> Option<Version<C>>
-        requires { ⌜ r < length (chains (now self)) ⌝ }
         ensures { λ o. ⌜ Cases o (getD (chains (now (self .entry))) r [] ≡ []) (λ v. getD (chains (now (self .entry))) r [] ≡ v ∷ drop 1 (getD (chains (now (self .entry))) r [])) ⌝ }
     {
-        match self.links.first(r) {
-            None => None,
-            Some(s) => {
-                let _next = self.links.after(s);
-                Some(self.versions[s as usize])
-            }
-        }
+        self.look(r, 0, self.links.first(r))
     }
 
     /// Empties the chain r.
     pub fn clear(&mut self, r: usize)
-        requires { ⌜ r < length (chains (now self)) ⌝ }
         ensures room { λ _. ⌜ capacity (now (self .exit)) ≡ capacity (now (self .entry)) ⌝ }
         ensures cleared { λ _. ⌜ chains (now (self .exit)) ≡ set (chains (now (self .entry))) r [] ⌝ }
     {
@@ -108,7 +98,6 @@ impl<C: Copy> VersionTable<C> {
 
     /// How many versions the chain r has.
     pub fn len(&self, r: usize) -> usize
-        requires { ⌜ r < length (chains (now self)) ⌝ }
         ensures { λ n. ⌜ n ≡ length (getD (chains (now (self .entry))) r []) ⌝ }
     {
         let mut n = 0;
@@ -122,18 +111,12 @@ impl<C: Copy> VersionTable<C> {
 
     /// The newest version of the chain r has another change: false where there is none.
     pub fn replace(&mut self, r: usize, version: Version<C>) -> bool
-        requires { ⌜ r < length (chains (now self)) ⌝ }
         ensures room { λ _. ⌜ capacity (now (self .exit)) ≡ capacity (now (self .entry)) ⌝ }
         ensures done { λ ok. ⌜ ok ≡ ltb 0 (length (getD (chains (now (self .entry))) r [])) ⌝ }
         ensures replaced { λ ok. ⌜ chains (now (self .exit)) ≡ cond ok (set (chains (now (self .entry))) r (version ∷ drop 1 (getD (chains (now (self .entry))) r []))) (chains (now (self .entry))) ⌝ }
     {
-        match self.links.first(r) {
-            None => false,
-            Some(s) => {
-                let _next = self.links.after(s);
-                self.versions[s as usize] = version;
-                true
-            }
-        }
+        let first = self.links.first(r);
+        self.write(r, 0, first, version);
+        first.is_some()
     }
 }

@@ -1,11 +1,13 @@
-// Pruning a record's chain in place, against the open times.
+// Pruning a record's chain in place, against the open times: one visit for each version, newest first.
 ghost use mathlib.Core.Path.{_≡_};
-ghost use mathlib.Core.List.{[]};
-ghost use Prim.Native.Nat.{_<_};
-ghost use lib.ListN.{length, getD, set};
-ghost use Rattle.std.specs.shelf.Lists.{sumBy};
-ghost use Rattle.lease.specs.Times.{opens};
-ghost use Rattle.chain.specs.Pruning.{prune-from, prune, prune-held};
+ghost use mathlib.Core.List.{[], _++_};
+ghost use Prim.Native.Nat.{_+_, _<_};
+ghost use lib.ListN.{length, getD, set, take, drop};
+ghost use Rattle.std.specs.shelf.Maps.{nth};
+ghost use Rattle.std.specs.declared.option.Option.the-variants.{Some};
+ghost use Rattle.lease.specs.Times.{opens, least as lowest};
+ghost use Rattle.chain.specs.Pruning.{open-in, floor, absorb, prune, prune-held};
+ghost use Rattle.links.specs.Meaning.{slots, before};
 ghost use Rattle.version_table.specs.Chains.{chains, capacity};
 use crate::table::VersionTable;
 use chain::gap::open_between;
@@ -13,77 +15,151 @@ use chain::version::Version;
 use kind::Kind;
 use lease::registry::Registry;
 
-// Prunes what is left of the chain r behind the version at hand, which stands in no slot.
-fn prune_rest<K: Kind, R: Registry>(
+// Whether a time is open below a version and not below the next one; `least` is the least open time.
+fn apart<C: Copy, R: Registry>(
+    registry: &R,
+    least: u32,
+    time: u32,
+    older: Option<Version<C>>,
+) -> bool
+    requires { ⌜ Some least ≡ lowest 0 (R·Registry .leases (now registry)) ⌝ }
+    ensures { λ b. ⌜ b ≡ open-in (opens (R·Registry .leases (now (registry .entry)))) (floor older) time ⌝ }
+{
+    match older {
+        Some(version) => open_between(registry, version.time, time),
+        None => least < time,
+    }
+}
+
+// The version at the place k is joined into the next one, or dropped where it is the last.
+fn join_down<K: Kind>(
+    table: &mut VersionTable<K::Change>,
+    r: usize,
+    k: usize,
+    link: Option<u16>,
+    hand: Version<K::Change>,
+    next: Option<u16>,
+)
+    requires inside { ⌜ k < length (getD (slots (now table .links)) r []) ⌝ }
+    requires before { ⌜ link ≡ before (getD (slots (now table .links)) r []) k ⌝ }
+    requires next { ⌜ next ≡ nth (getD (slots (now table .links)) r []) (k + 1) ⌝ }
+    ensures room { λ _. ⌜ capacity (now (table .exit)) ≡ capacity (now (table .entry)) ⌝ }
+    ensures links { λ _. ⌜ slots (now (table .exit) .links) ≡ set (slots (now (table .entry) .links)) r (take k (getD (slots (now (table .entry) .links)) r []) ++ drop (k + 1) (getD (slots (now (table .entry) .links)) r [])) ⌝ }
+    ensures joined { λ _. ⌜ chains (now (table .exit)) ≡ set (chains (now (table .entry))) r (take k (getD (chains (now (table .entry))) r []) ++ absorb (K·Kind .ops) hand (drop (k + 1) (getD (chains (now (table .entry))) r []))) ⌝ }
+{
+    if let Some(older) = table.look(r, k + 1, next) {
+        let change = K::join(hand.change, older.change);
+        table.write(
+            r,
+            k + 1,
+            next,
+            Version {
+                time: hand.time,
+                change,
+            },
+        );
+    }
+    table.cut(r, k, link);
+}
+
+// Every version from the place k on is dropped.
+fn drop_from<C: Copy>(
+    table: &mut VersionTable<C>,
+    r: usize,
+    k: usize,
+    link: Option<u16>,
+    start: Option<u16>,
+)
+    requires before { ⌜ link ≡ before (getD (slots (now table .links)) r []) k ⌝ }
+    requires start { ⌜ start ≡ nth (getD (slots (now table .links)) r []) k ⌝ }
+    ensures room { λ _. ⌜ capacity (now (table .exit)) ≡ capacity (now (table .entry)) ⌝ }
+    ensures dropped { λ _. ⌜ chains (now (table .exit)) ≡ set (chains (now (table .entry))) r (take k (getD (chains (now (table .entry))) r [])) ⌝ }
+{
+    let mut at = start;
+    while let Some(_slot) = at {
+        let next = table.links.follow(r, k, at);
+        table.cut(r, k, link);
+        at = next;
+    }
+}
+
+// Prunes the chain r from the place k on, which leads back from the row.
+fn prune_from<K: Kind, R: Registry>(
     table: &mut VersionTable<K::Change>,
     r: usize,
     registry: &R,
     row: K::Row,
-    hand: Version<K::Change>,
+    start: usize,
+    link: Option<u16>,
+    first: Option<u16>,
 )
-    requires within { ⌜ r < length (chains (now table)) ⌝ }
-    requires room { ⌜ sumBy length (chains (now table)) < capacity (now table) ⌝ }
+    requires before { ⌜ link ≡ before (getD (slots (now table .links)) r []) start ⌝ }
+    requires first { ⌜ first ≡ nth (getD (slots (now table .links)) r []) start ⌝ }
     ensures room { λ _. ⌜ capacity (now (table .exit)) ≡ capacity (now (table .entry)) ⌝ }
-    ensures pruned { λ _. ⌜ chains (now (table .exit)) ≡ set (chains (now (table .entry))) r (prune-from (K·Kind .ops) (opens (R·Registry .leases (now (registry .entry)))) row hand (getD (chains (now (table .entry))) r [])) ⌝ }
+    ensures pruned { λ _. ⌜ chains (now (table .exit)) ≡ set (chains (now (table .entry))) r (take start (getD (chains (now (table .entry))) r []) ++ prune (K·Kind .ops) (opens (R·Registry .leases (now (registry .entry)))) row (drop start (getD (chains (now (table .entry))) r []))) ⌝ }
 {
-    match table.pop(r) {
-        None => {
-            if open_between(registry, 0, hand.time) {
-                let back = K::undo(row, hand.change);
-                if !K::same(row, back) {
-                    let _kept = table.push(r, hand);
-                }
-            }
-        }
-        Some(next) => {
-            if open_between(registry, next.time, hand.time) {
-                let back = K::undo(row, hand.change);
-                if K::same(row, back) {
-                    prune_rest::<K, R>(table, r, registry, row, next);
-                } else {
-                    prune_rest::<K, R>(table, r, registry, back, next);
-                    let _kept = table.push(r, hand);
-                }
+    let Some(least) = registry.least_from(0) else {
+        drop_from(table, r, start, link, first);
+        return;
+    };
+    let mut reached = row;
+    let mut k = start;
+    let mut before = link;
+    let mut at = first;
+    while let Some(hand) = table.look(r, k, at) {
+        let next = table.links.follow(r, k, at);
+        let older = table.look(r, k + 1, next);
+        if apart(registry, least, hand.time, older) {
+            let back = K::undo(reached, hand.change);
+            if K::same(reached, back) {
+                table.cut(r, k, before);
             } else {
-                let joined = Version {
-                    time: hand.time,
-                    change: K::join(hand.change, next.change),
-                };
-                prune_rest::<K, R>(table, r, registry, row, joined);
+                reached = back;
+                before = at;
+                k += 1;
             }
+        } else {
+            join_down::<K>(table, r, k, before, hand, next);
         }
+        at = next;
     }
 }
 
-/// Prunes the chain r, which leads back from the row.
+// Prunes the chain r, which leads back from the row.
 pub fn prune_chain<K: Kind, R: Registry>(
     table: &mut VersionTable<K::Change>,
     r: usize,
     registry: &R,
     row: K::Row,
 )
-    requires { ⌜ r < length (chains (now table)) ⌝ }
     ensures room { λ _. ⌜ capacity (now (table .exit)) ≡ capacity (now (table .entry)) ⌝ }
     ensures pruned { λ _. ⌜ chains (now (table .exit)) ≡ set (chains (now (table .entry))) r (prune (K·Kind .ops) (opens (R·Registry .leases (now (registry .entry)))) row (getD (chains (now (table .entry))) r [])) ⌝ }
 {
-    if let Some(newest) = table.pop(r) {
-        prune_rest::<K, R>(table, r, registry, row, newest);
-    }
+    let first = table.links.first(r);
+    prune_from::<K, R>(table, r, registry, row, 0, None, first);
 }
 
-/// Prunes the chain r behind its first version, a holder's change, which leads back from the row in place.
+// Prunes the chain r behind its first version, a holder's change, which leads back from the row in place.
 pub fn prune_behind<K: Kind, R: Registry>(
     table: &mut VersionTable<K::Change>,
     r: usize,
     registry: &R,
     place: K::Row,
 )
-    requires { ⌜ r < length (chains (now table)) ⌝ }
     ensures room { λ _. ⌜ capacity (now (table .exit)) ≡ capacity (now (table .entry)) ⌝ }
     ensures pruned { λ _. ⌜ chains (now (table .exit)) ≡ set (chains (now (table .entry))) r (prune-held (K·Kind .ops) (opens (R·Registry .leases (now (registry .entry)))) place (getD (chains (now (table .entry))) r [])) ⌝ }
 {
-    if let Some(first) = table.pop(r) {
-        prune_chain::<K, R>(table, r, registry, K::undo(place, first.change));
-        let _kept = table.push(r, first);
+    let first = table.links.first(r);
+    if let Some(held) = table.look(r, 0, first) {
+        let next = table.links.follow(r, 0, first);
+        prune_from::<K, R>(
+            table,
+            r,
+            registry,
+            K::undo(place, held.change),
+            1,
+            first,
+            next,
+        );
     }
 }

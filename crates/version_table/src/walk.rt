@@ -27,7 +27,6 @@ fn read_from<K: Kind>(table: &VersionTable<K::Change>, start: Option<u16>, t: u3
 
 /// Leads a row back to the time t by the chain r.
 pub fn read_back<K: Kind>(table: &VersionTable<K::Change>, r: usize, t: u32, row: &mut K::Row)
-    requires { ⌜ r < length (chains (now table)) ⌝ }
     ensures { λ _. ⌜ now (row .exit) ≡ reads (K·Kind .ops) (now (row .entry)) (getD (chains (now (table .entry))) r []) t ⌝ }
 {
     read_from::<K>(table, table.links.first(r), t, row);
@@ -35,7 +34,6 @@ pub fn read_back<K: Kind>(table: &VersionTable<K::Change>, r: usize, t: u32, row
 
 /// Leads a row back to the time t by the chain r without its first version.
 pub fn read_past_first<K: Kind>(table: &VersionTable<K::Change>, r: usize, t: u32, row: &mut K::Row)
-    requires { ⌜ r < length (chains (now table)) ⌝ }
     ensures { λ _. ⌜ now (row .exit) ≡ reads (K·Kind .ops) (now (row .entry)) (drop 1 (getD (chains (now (table .entry))) r [])) t ⌝ }
 {
     if let Some(s) = table.links.first(r) {
@@ -63,8 +61,7 @@ fn times_from<C: Copy>(table: &VersionTable<C>, start: Option<u16>, out: &mut [u
 
 /// Writes the times of the chain r, the newest first, and says how many.
 pub fn times<C: Copy>(table: &VersionTable<C>, r: usize, out: &mut [u32]) -> usize
-    requires within { ⌜ r < length (chains (now table)) ⌝ }
-    requires room { ⌜ length (getD (chains (now table)) r []) ≤ length (now out) ⌝ }
+    requires { ⌜ length (getD (chains (now table)) r []) ≤ length (now out) ⌝ }
     ensures { λ n. ⌜ Listed (getD (chains (now (table .entry))) r []) (now (out .entry)) n (now (out .exit)) ⌝ }
 {
     times_from(table, table.links.first(r), out)
@@ -72,8 +69,7 @@ pub fn times<C: Copy>(table: &VersionTable<C>, r: usize, out: &mut [u32]) -> usi
 
 /// Writes the times of the chain r without its first version.
 pub fn times_past_first<C: Copy>(table: &VersionTable<C>, r: usize, out: &mut [u32]) -> usize
-    requires within { ⌜ r < length (chains (now table)) ⌝ }
-    requires room { ⌜ length (drop 1 (getD (chains (now table)) r [])) ≤ length (now out) ⌝ }
+    requires { ⌜ length (drop 1 (getD (chains (now table)) r [])) ≤ length (now out) ⌝ }
     ensures { λ n. ⌜ Listed (drop 1 (getD (chains (now (table .entry))) r [])) (now (out .entry)) n (now (out .exit)) ⌝ }
 {
     match table.links.first(r) {

@@ -1,15 +1,12 @@
 use mathlib.Core.Path.{sym, ap, _∙_}
 use Rattle.version_table.specs.Chains.{pick}
 use Rattle.chain.specs.Versions.{reads}
-use Rattle.version_table.proofs.Picks.{row-slots, chain-is}
+use Rattle.version_table.proofs.Picks.{chain-is}
 use Rattle.version_table.proofs.walk.read_back.Needs as need
-
-pub first-requires : need.first-requires
-first-requires g c κs = row-slots (c .args .table .now) (c .args .r) (c .pre)
 
 pub returns : need.returns
 returns g c =
     let vs = c .args .table .now .versions .items in
     c .read-from .ensures
     ∙ ap (λ l. reads (g .K·Kind .ops) (c .args .row .now) (pick vs l) (c .args .t)) (c .first .ensures .list)
-    ∙ ap (λ l. reads (g .K·Kind .ops) (c .args .row .now) l (c .args .t)) (sym (chain-is (c .args .table .now) (c .args .r) (c .pre)))
+    ∙ ap (λ l. reads (g .K·Kind .ops) (c .args .row .now) l (c .args .t)) (sym (chain-is (c .args .table .now) (c .args .r)))

@@ -4,7 +4,7 @@ use Rattle.links.specs.Meaning.{from}
 use Rattle.version_table.specs.Chains.{pick}
 use Rattle.chain.specs.Versions.{reads}
 use Rattle.version_table.proofs.Picks.{cursor, cursor-end}
-use Rattle.version_table.proofs.Readings.{reads-below, reads-past}
+use Rattle.chain.proofs.Reading.{reads-below, reads-past}
 use Rattle.version_table.proofs.walk.read_from.Needs as need
 
 pub loop-at-again : need.loop-at-again

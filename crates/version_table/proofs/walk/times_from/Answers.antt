@@ -7,7 +7,7 @@ use lib.ListN.{length, getD, take}
 use Rattle.chain.specs.declared.version.Version.{Version}
 use Rattle.links.specs.Meaning.{from, slots}
 use Rattle.version_table.specs.Chains.{pick}
-use Rattle.version_table.proofs.Picks.{row-slots, cursor, cursor-end, chain-is, list-small, slot-len, written-more, written-all}
+use Rattle.version_table.proofs.Picks.{cursor, cursor-end, chain-is, list-small, slot-len, written-more, written-all}
 use Rattle.version_table.proofs.walk.times_from.Given as given
 use Rattle.version_table.proofs.walk.times_from.Needs as need
 

@@ -4,11 +4,8 @@ use lib.ListN.{set}
 use Rattle.std.proofs.shelf.Lists.{map-set}
 use Rattle.links.specs.Meaning.{slots}
 use Rattle.version_table.specs.Chains.{chains, capacity, pick}
-use Rattle.version_table.proofs.Picks.{row-slots, pick-nil}
+use Rattle.version_table.proofs.Picks.{pick-nil}
 use Rattle.version_table.proofs.table.VersionTable.clear.Needs as need
-
-pub clear-requires : need.clear-requires
-clear-requires g c κs = row-slots (c .args .self .now) (c .args .r) (c .pre)
 
 pub returns : need.returns
 unfolding chains capacity

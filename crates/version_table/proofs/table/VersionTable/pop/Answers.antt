@@ -2,11 +2,8 @@ use mathlib.Core.Path.{_∙_, sym, ap, refl}
 use mathlib.Core.List.{map, []}
 use Rattle.links.specs.Meaning.{slots}
 use Rattle.version_table.specs.Chains.{chains, capacity, pick}
-use Rattle.version_table.proofs.Picks.{row-slots, row-empty, popped, inside-versions}
+use Rattle.version_table.proofs.Picks.{row-empty, popped, inside-versions}
 use Rattle.version_table.proofs.table.VersionTable.pop.Needs as need
-
-pub give-requires : need.give-requires
-give-requires g c κs = row-slots (c .args .self .now) (c .args .r) (c .pre)
 
 pub returns-in-None : need.returns-in-None
 unfolding chains capacity
@@ -15,7 +12,7 @@ returns-in-None g c =
     let vs = c .args .self .now .versions .items in
     record {
       room = k .size;
-      popped = (ap (map (pick vs)) (k .given .0), row-empty vs (slots (c .args .self .now .links)) (c .args .r) (row-slots (c .args .self .now) (c .args .r) (c .pre)) (k .given .1));
+      popped = (ap (map (pick vs)) (k .given .0), row-empty vs (slots (c .args .self .now .links)) (c .args .r) (k .given .1));
     }
 
 pub returns-in-Some : need.returns-in-Some
@@ -24,5 +21,5 @@ returns-in-Some g c =
     let k = c .in-Some .ensures tt in
     record {
       room = k .size;
-      popped = popped (c .args .self .now .versions .items) (c .in-Some .s) (c .index .result .now) (slots (c .args .self .now .links)) (slots (c .give .last .self)) (c .args .r) (inside-versions (c .args .self .now) (c .in-Some .s) (k .given .2)) (c .index .ensures) (row-slots (c .args .self .now) (c .args .r) (c .pre)) (k .given .1) (k .given .0);
+      popped = popped (c .args .self .now .versions .items) (c .in-Some .s) (c .index .result .now) (slots (c .args .self .now .links)) (slots (c .give .last .self)) (c .args .r) (inside-versions (c .args .self .now) (c .in-Some .s) (k .given .2)) (c .index .ensures) (k .given .1) (k .given .0);
     }

@@ -1,35 +1,23 @@
-use mathlib.Core.Path.{_≡_, _∙_, sym, ap, refl}
-use mathlib.Core.List.{[], _∷_}
-use native.Mathlib.Omega.{arith}
-use Prim.Native.Nat.{ℕ, _<_, _≤_}
-use lib.ListN.{length, getD}
-use Rattle.std.proofs.shelf.Tests.{le-ltb, lt-ltb}
+use mathlib.Core.Path.{ap, sym, _∙_}
+use mathlib.Core.List.{[]}
+use lib.ListN.{getD}
+use Rattle.std.specs.Options.{isSome}
+use Rattle.links.specs.Meaning.{slots, size}
 use Rattle.version_table.specs.Chains.{chains, capacity}
-use Rattle.links.specs.Meaning.{slots, from}
-use Rattle.links.proofs.Ways.{from-none}
-use Rattle.version_table.proofs.Picks.{row-slots, chain-len, front-write}
+use Rattle.version_table.proofs.Picks.{chain-len}
+use Rattle.version_table.proofs.Cursors.{front-written, some-front}
 use Rattle.version_table.proofs.table.VersionTable.replace.Needs as need
 
-pub first-requires : need.first-requires
-first-requires g c κs = row-slots (c .args .self .now) (c .args .r) (c .pre)
+pub write-requires : need.write-requires
+write-requires g c κs = c .first-first .ensures .head
 
-pub returns-in-None : need.returns-in-None
-returns-in-None g c =
-    let n = chain-len (c .args .self .now) (c .args .r) (c .pre) in
-    let e : length (getD (slots (c .args .self .now .links)) (c .args .r) []) ≡ 0 = ap length (sym (c .in-None .ensures tt .list) ∙ from-none (c .args .self .now .links)) in
+pub returns : need.returns
+unfolding capacity
+returns g c =
+    let t = c .args .self .now in
+    let done = some-front (getD (slots (t .links)) (c .args .r) []) (getD (chains t) (c .args .r) []) (c .is-some .result) (sym (chain-len t (c .args .r))) (c .is-some .ensures ∙ ap isSome (c .first-first .ensures .head)) in
     record {
-      room = refl;
-      done = sym (le-ltb 0 (length (getD (chains (c .args .self .now)) (c .args .r) [])) (omega (arith, n, e)));
-      replaced = refl;
-    }
-
-pub returns-in-Some : need.returns-in-Some
-unfolding capacity chains
-returns-in-Some g c =
-    let n = chain-len (c .args .self .now) (c .args .r) (c .pre) in
-    let e : length (getD (slots (c .args .self .now .links)) (c .args .r) []) ≡ length (c .in-Some .s ∷ from (c .args .self .now .links) (c .after-next .result)) = ap length (sym (c .in-Some .ensures tt .list) ∙ c .after-next .ensures .list) in
-    record {
-      room = refl;
-      done = sym (lt-ltb 0 (length (getD (chains (c .args .self .now)) (c .args .r) [])) (omega (arith, n, e)));
-      replaced = front-write (c .args .self .now) (c .args .r) (c .in-Some .s) (c .after-next .result) (c .args .version) (c .pre) (c .in-Some .ensures tt .list) (c .after-next .ensures .list) (c .after-next .ensures .inside);
+      room = ap size (c .write .ensures .links);
+      done = done;
+      replaced = front-written (chains t) (chains (c .write .last .self)) (c .args .r) (c .args .version) (c .is-some .result) done (c .write .ensures .written);
     }

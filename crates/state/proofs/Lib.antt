@@ -1,0 +1,4 @@
+pub mod Views
+pub mod Owners
+pub mod Writes
+pub mod Fresh

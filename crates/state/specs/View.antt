@@ -1,0 +1,52 @@
+-- What a state means, and what its checks answer.
+--     stored r vs     a record of the table with its list: a held record's list has the holder's change first, and behind it the chain
+--     view s          the model that the state s is
+--     Placed, Owned   what the checks of a record's number and of the right to change it answer
+use mathlib.Core.Path.{_≡_}
+use mathlib.Core.List.{List, [], _∷_}
+use Prim.Native.Nat.{ℕ, _<_, _≤_}
+use lib.ListN.{length, drop}
+use Rattle.std.specs.declared.option.Option.{Option}
+use Rattle.std.specs.declared.option.Option.the-variants.{Some, None}
+use Rattle.std.specs.declared.result.Result.{Result}
+use Rattle.std.specs.declared.result.Result.the-variants.{Ok, Err}
+use Rattle.std.specs.Of.Vec.{vec-items}
+use Rattle.kind.specs.Kinds.{Ops}
+use Rattle.chain.specs.declared.version.Version.{Version}
+use Rattle.version_table.specs.Chains.{chains, capacity}
+use Rattle.history.specs.declared.fault.StoreFault.{StoreFault}
+use Rattle.history.specs.History.{Hold, free, held}
+use Rattle.history.specs.Model.{Stored, Model, no-record, refused-own}
+use Rattle.state.specs.declared.entry.Entry.{Entry}
+use Rattle.state.specs.declared.state.State.{State}
+
+abbrev pub hold-of : {C : Type 0} → Option ℕ → List (Version C) → Hold C
+hold-of None vs = free
+hold-of (Some w) [] = free
+hold-of (Some w) (v ∷ vs) = held w (v .change)
+
+abbrev pub behind : {C : Type 0} → Option ℕ → List (Version C) → List (Version C)
+behind None vs = vs
+behind (Some w) vs = drop 1 vs
+
+abbrev pub stored : {Row C : Type 0} → Entry Row → List (Version C) → Stored Row C
+stored r vs = record { place = r .row; holder = hold-of (r .holder) vs; last = r .last; chain = behind (r .holder) vs }
+
+abbrev pub viewed : {Row C : Type 0} → List (Entry Row) → List (List (Version C)) → List (Stored Row C)
+viewed [] cs = []
+viewed (r ∷ rs) [] = []
+viewed (r ∷ rs) (c ∷ cs) = stored r c ∷ viewed rs cs
+
+-- the four types are the kind, its rows, edits and changes
+unfoldable pub view : {K Row Edit C : Type 0} → State K Row Edit C → Model Row C
+view s = record { clock = s .clock; room = capacity (s .table); records = viewed (vec-items (s .records)) (chains (s .table)) }
+
+-- whether a record's number is one, and is its place
+unfoldable pub Placed : {Row C : Type 0} → Model Row C → ℕ → Result ℕ StoreFault → Type 0
+Placed m i (Ok j) = (i < length (m .records)) × (j ≡ i)
+Placed m i (Err f) = (length (m .records) ≤ i) × (f ≡ no-record i)
+
+-- whether a writer may change a record
+unfoldable pub Owned : {Row Edit C U : Type 0} → Ops Row Edit C → Model Row C → ℕ → ℕ → Result U StoreFault → Type 0
+Owned k m w i (Ok u) = refused-own k m w i ≡ None
+Owned k m w i (Err f) = refused-own k m w i ≡ Some f
