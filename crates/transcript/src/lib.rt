@@ -1,0 +1,2 @@
+// The transcript of a script: what is printed of each line.
+pub mod text;
