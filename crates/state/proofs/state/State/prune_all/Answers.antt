@@ -13,18 +13,6 @@ use Rattle.state.proofs.state.State.prune_all.Given as given
 use Rattle.state.proofs.state.State.prune_all.Needs.{in-None, in-Some}
 use Rattle.state.proofs.state.State.prune_all.Needs as need
 
-pub prune-chain-requires : need.prune-chain-requires
-prune-chain-requires g c κs =
-    let s = c .loop-i .self in
-    let same = ap (λ z. length (vec-items z)) (c .loop-i .inv .1) in
-    omega (arith, rows-alike (vec-items (s .records)) (chains (s .table)) (s .sound), same, c .args .self .now .records .ok .0, c .loop-i-test .taken, c .len-i-end .ensures)
-
-pub prune-behind-requires : need.prune-behind-requires
-prune-behind-requires g c κs =
-    let s = c .loop-i .self in
-    let same = ap (λ z. length (vec-items z)) (c .loop-i .inv .1) in
-    omega (arith, rows-alike (vec-items (s .records)) (chains (s .table)) (s .sound), same, c .args .self .now .records .ok .0, c .loop-i-test .taken, c .len-i-end .ensures)
-
 pub ghost-self : need.ghost-self
 ghost-self g c =
     let k = g .K·Kind .ops in

@@ -13,15 +13,6 @@ use Rattle.state.proofs.state.State.reading.Needs as need
 pub index-entry-requires : need.index-entry-requires
 index-entry-requires g c κs = omega (arith, in-records (c .args .self .now) (c .args .i) (c .pre), c .args .self .now .records .ok .0)
 
-pub read-back-requires : need.read-back-requires
-read-back-requires g c κs = in-table (c .args .self .now) (c .args .i) (c .pre)
-
-pub front-requires : need.front-requires
-front-requires g c κs = in-table (c .args .self .now) (c .args .i) (c .pre)
-
-pub read-past-first-requires : need.read-past-first-requires
-read-past-first-requires g c κs = in-table (c .args .self .now) (c .args .i) (c .pre)
-
 pub returns-in-None : need.returns-in-None
 returns-in-None g c =
     let k = g .K·Kind .ops in

@@ -15,9 +15,6 @@ use Rattle.state.proofs.Writes.{there}
 use Rattle.state.proofs.Fresh.{behind-none, behind-some, one-fewer}
 use Rattle.state.proofs.state.State.versions.Needs as need
 
-pub len-all-requires : need.len-all-requires
-len-all-requires g c κs = in-table (c .args .self .now) (c .args .i) (c .pre)
-
 pub index-requires : need.index-requires
 index-requires g c κs = omega (arith, in-records (c .args .self .now) (c .args .i) (c .pre), c .args .self .now .records .ok .0)
 

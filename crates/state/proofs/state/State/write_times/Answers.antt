@@ -18,7 +18,7 @@ times-requires g c κs =
     let i = c .args .i in
     let x = c .index .result .now in
     let y = ap (λ (z : Stored (g .K·Row .Denot) (g .K·Change .Denot)). z .chain) (view-at s i (new-stored (g .K·Kind .ops) 0) x (c .pre .within) (c .index .ensures)) ∙ behind-none (x .holder) (getD (chains (s .table)) i []) (c .in-None .is) in
-    record { within = in-table s i (c .pre .within); room = omega (arith, ap length y, c .pre .room) }
+    omega (arith, ap length y, c .pre .room)
 
 pub times-past-first-requires : need.times-past-first-requires
 times-past-first-requires g c κs =
@@ -26,7 +26,7 @@ times-past-first-requires g c κs =
     let i = c .args .i in
     let x = c .index .result .now in
     let y = ap (λ (z : Stored (g .K·Row .Denot) (g .K·Change .Denot)). z .chain) (view-at s i (new-stored (g .K·Kind .ops) 0) x (c .pre .within) (c .index .ensures)) ∙ behind-some (x .holder) (c .in-Some .field-0) (getD (chains (s .table)) i []) (c .in-Some .is) in
-    record { within = in-table s i (c .pre .within); room = omega (arith, ap length y, c .pre .room) }
+    omega (arith, ap length y, c .pre .room)
 
 pub returns-in-None : need.returns-in-None
 returns-in-None g c =
