@@ -14,7 +14,7 @@ use Rattle.links.specs.declared.table.Links.{Links}
 use Rattle.links.specs.Meaning.{slots, size}
 use Rattle.links.proofs.Linked.{Run, Inv, inv-from, inv-walks, inv-sound, run-some, run-none}
 use Rattle.links.proofs.Steps.{tails, used-is, row-in}
-use Rattle.links.proofs.Cut.{cut}
+use Rattle.links.proofs.Cutting.{cut}
 
 -- the way from the middle of a list
 pub run-at : (nx : List (Option ℕ)) (p : ℕ) (A R : List ℕ) (o : Option ℕ) → Run nx o (A ++ (p ∷ R)) → (p < length nx) × Run nx (getD nx p None) R

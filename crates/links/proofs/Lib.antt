@@ -1,4 +1,4 @@
-pub mod Cut
+pub mod Cutting
 pub mod CutSteps
 pub mod Fresh
 pub mod Linked

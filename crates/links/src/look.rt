@@ -23,14 +23,14 @@ impl Links {
         }
     }
 
-    /// What follows the slot s of a list.
-    pub fn after(&self, s: u16) -> Option<u16>
-        requires { ⌜ Onto (now self) (Some s) ⌝ }
+    // The link from a slot of a list to the next one.
+    pub fn after(&self, slot: u16) -> Option<u16>
+        requires { ⌜ Onto (now self) (Some slot) ⌝ }
         ensures onto { λ o. ⌜ Onto (now (self .entry)) o ⌝ }
-        ensures list { λ o. ⌜ from (now (self .entry)) (Some s) ≡ s ∷ from (now (self .entry)) o ⌝ }
-        ensures inside { λ _. ⌜ s < size (now (self .entry)) ⌝ }
+        ensures list { λ o. ⌜ from (now (self .entry)) (Some slot) ≡ slot ∷ from (now (self .entry)) o ⌝ }
+        ensures inside { λ _. ⌜ slot < size (now (self .entry)) ⌝ }
     {
-        self.next[s as usize]
+        self.next[slot as usize]
     }
 
     // The link from the place k of the list r to the next place; `at` is the link to the place k.
@@ -44,7 +44,7 @@ impl Links {
         }
     }
 
-    /// The slots in use.
+    // How many slots are in lists.
     pub fn used(&self) -> usize
         ensures { λ r. ⌜ r ≡ sumBy length (slots (now (self .entry))) ⌝ }
     {

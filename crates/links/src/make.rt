@@ -38,7 +38,7 @@ fn one_list(heap: Global, m: usize) -> Result<Vec<Option<u16>>, AllocError>
 }
 
 impl Links {
-    /// n empty lists over a table of m slots.
+    // n empty lists over a table of m slots.
     pub fn new(heap: Global, n: usize, m: usize) -> Result<Links, AllocError>
         requires { ⌜ 1 ≤ m ⌝ ∗ ⌜ m ≤ 65536 ⌝ }
         ensures { λ r. ⌜ made r (λ l. (slots l ≡ replicate n []) × (size l ≡ m)) ⌝ }

@@ -42,4 +42,19 @@ impl<C: Copy> VersionTable<C> {
     {
         self.links.cut(r, k, link);
     }
+
+    // Every version from the place k on is dropped.
+    pub(crate) fn drop_from(&mut self, r: usize, k: usize, link: Option<u16>, start: Option<u16>)
+        requires before { ⌜ link ≡ before (getD (slots (now self .links)) r []) k ⌝ }
+        requires start { ⌜ start ≡ nth (getD (slots (now self .links)) r []) k ⌝ }
+        ensures room { λ _. ⌜ capacity (now (self .exit)) ≡ capacity (now (self .entry)) ⌝ }
+        ensures dropped { λ _. ⌜ chains (now (self .exit)) ≡ set (chains (now (self .entry))) r (take k (getD (chains (now (self .entry))) r [])) ⌝ }
+    {
+        let mut at = start;
+        while let Some(_slot) = at {
+            let next = self.links.follow(r, k, at);
+            self.cut(r, k, link);
+            at = next;
+        }
+    }
 }

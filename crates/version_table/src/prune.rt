@@ -62,27 +62,6 @@ fn join_down<K: Kind>(
     table.cut(r, k, link);
 }
 
-// Every version from the place k on is dropped.
-fn drop_from<C: Copy>(
-    table: &mut VersionTable<C>,
-    r: usize,
-    k: usize,
-    link: Option<u16>,
-    start: Option<u16>,
-)
-    requires before { ⌜ link ≡ before (getD (slots (now table .links)) r []) k ⌝ }
-    requires start { ⌜ start ≡ nth (getD (slots (now table .links)) r []) k ⌝ }
-    ensures room { λ _. ⌜ capacity (now (table .exit)) ≡ capacity (now (table .entry)) ⌝ }
-    ensures dropped { λ _. ⌜ chains (now (table .exit)) ≡ set (chains (now (table .entry))) r (take k (getD (chains (now (table .entry))) r [])) ⌝ }
-{
-    let mut at = start;
-    while let Some(_slot) = at {
-        let next = table.links.follow(r, k, at);
-        table.cut(r, k, link);
-        at = next;
-    }
-}
-
 // Prunes the chain r from the place k on, which leads back from the row.
 fn prune_from<K: Kind, R: Registry>(
     table: &mut VersionTable<K::Change>,
@@ -99,7 +78,7 @@ fn prune_from<K: Kind, R: Registry>(
     ensures pruned { λ _. ⌜ chains (now (table .exit)) ≡ set (chains (now (table .entry))) r (take start (getD (chains (now (table .entry))) r []) ++ prune (K·Kind .ops) (opens (R·Registry .leases (now (registry .entry)))) row (drop start (getD (chains (now (table .entry))) r []))) ⌝ }
 {
     let Some(least) = registry.least_from(0) else {
-        drop_from(table, r, start, link, first);
+        table.drop_from(r, start, link, first);
         return;
     };
     let mut reached = row;

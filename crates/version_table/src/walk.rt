@@ -1,3 +1,4 @@
+// Walks along a chain: reading a row back, and writing the times of its versions.
 ghost use mathlib.Core.Path.{_≡_};
 ghost use mathlib.Core.List.{[]};
 ghost use Prim.Native.Nat.{_<_, _≤_};
@@ -25,14 +26,14 @@ fn read_from<K: Kind>(table: &VersionTable<K::Change>, start: Option<u16>, t: u3
     }
 }
 
-/// Leads a row back to the time t by the chain r.
+// Leads a row back to the time t by the chain r.
 pub fn read_back<K: Kind>(table: &VersionTable<K::Change>, r: usize, t: u32, row: &mut K::Row)
     ensures { λ _. ⌜ now (row .exit) ≡ reads (K·Kind .ops) (now (row .entry)) (getD (chains (now (table .entry))) r []) t ⌝ }
 {
     read_from::<K>(table, table.links.first(r), t, row);
 }
 
-/// Leads a row back to the time t by the chain r without its first version.
+// Leads a row back to the time t by the chain r without its first version.
 pub fn read_past_first<K: Kind>(table: &VersionTable<K::Change>, r: usize, t: u32, row: &mut K::Row)
     ensures { λ _. ⌜ now (row .exit) ≡ reads (K·Kind .ops) (now (row .entry)) (drop 1 (getD (chains (now (table .entry))) r [])) t ⌝ }
 {
@@ -59,7 +60,7 @@ fn times_from<C: Copy>(table: &VersionTable<C>, start: Option<u16>, out: &mut [u
     n
 }
 
-/// Writes the times of the chain r, the newest first, and says how many.
+// Writes the times of the chain r, the newest first, and says how many.
 pub fn times<C: Copy>(table: &VersionTable<C>, r: usize, out: &mut [u32]) -> usize
     requires { ⌜ length (getD (chains (now table)) r []) ≤ length (now out) ⌝ }
     ensures { λ n. ⌜ Listed (getD (chains (now (table .entry))) r []) (now (out .entry)) n (now (out .exit)) ⌝ }
@@ -67,7 +68,7 @@ pub fn times<C: Copy>(table: &VersionTable<C>, r: usize, out: &mut [u32]) -> usi
     times_from(table, table.links.first(r), out)
 }
 
-/// Writes the times of the chain r without its first version.
+// Writes the times of the chain r without its first version.
 pub fn times_past_first<C: Copy>(table: &VersionTable<C>, r: usize, out: &mut [u32]) -> usize
     requires { ⌜ length (drop 1 (getD (chains (now table)) r [])) ≤ length (now out) ⌝ }
     ensures { λ n. ⌜ Listed (drop 1 (getD (chains (now (table .entry))) r [])) (now (out .entry)) n (now (out .exit)) ⌝ }

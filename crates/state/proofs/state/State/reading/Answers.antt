@@ -6,7 +6,7 @@ use Rattle.chain.specs.Versions.{reads}
 use Rattle.version_table.specs.Chains.{chains}
 use Rattle.state.specs.View.{view, stored}
 use Rattle.history.specs.Model.{reading, new-stored}
-use Rattle.state.proofs.Views.{in-table, in-records, view-at, read-free, read-held, read-bare}
+use Rattle.state.proofs.Views.{in-records, view-at, read-free, read-held, read-bare}
 use Rattle.state.proofs.state.State.reading.Needs.{in-Some-front, in-rest}
 use Rattle.state.proofs.state.State.reading.Needs as need
 

@@ -10,7 +10,7 @@ use Rattle.version_table.specs.Chains.{chains, Listed}
 use Rattle.chain.specs.declared.version.Version.{Version}
 use Rattle.state.specs.View.{view, stored, Placed}
 use Rattle.history.specs.Model.{Stored, record-at, new-stored, free-stored, or-else}
-use Rattle.state.proofs.Views.{in-records, in-table, view-at}
+use Rattle.state.proofs.Views.{in-records, view-at}
 use Rattle.state.proofs.Writes.{there}
 use Rattle.state.proofs.Fresh.{behind-none, behind-some, one-fewer}
 use Rattle.state.proofs.state.State.versions.Needs as need

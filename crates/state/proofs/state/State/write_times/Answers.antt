@@ -5,7 +5,7 @@ use lib.ListN.{length, getD}
 use Rattle.version_table.specs.Chains.{chains, Listed}
 use Rattle.chain.specs.declared.version.Version.{Version}
 use Rattle.history.specs.Model.{Stored, new-stored}
-use Rattle.state.proofs.Views.{in-records, in-table, view-at}
+use Rattle.state.proofs.Views.{in-records, view-at}
 use Rattle.state.proofs.Fresh.{behind-none, behind-some}
 use Rattle.state.proofs.state.State.write_times.Needs as need
 

@@ -6,7 +6,6 @@ use lib.ListN.{length}
 use Rattle.std.specs.shelf.Lists.{sumBy}
 use Rattle.links.specs.Meaning.{size}
 use Rattle.version_table.specs.Chains.{chains, capacity}
-use Rattle.version_table.proofs.Picks.{chains-sum}
 use Rattle.version_table.proofs.table.VersionTable.is_full.Needs as need
 
 pub returns : need.returns
@@ -14,4 +13,4 @@ unfolding capacity
 returns g c =
     let k = c .args .self .now in
     let a : c .len .result ≡ size (k .links) = omega (arith, c .len .ensures, k .versions .ok .0, k .sized) in
-    ap (λ n. leb n (c .used .result)) a ∙ ap (λ n. leb (size (k .links)) n) (c .used .ensures ∙ sym (chains-sum k))
+    ap (λ n. leb n (c .used .result)) a ∙ ap (λ n. leb (size (k .links)) n) (c .used .ensures)
