@@ -2,6 +2,9 @@
 --     Printed               a line's text, and the model and the leases after it
 --     print-line n m ls l   the line l, the n-th, on the model m and the open leases ls
 --     print-lines n m ls    the same of all lines that are left, and then the end
+--     Behind                a line was printed behind a text
+--     left r                the lines that a reader has left
+use mathlib.Core.Path.{_≡_}
 use mathlib.Core.List.{List, [], _∷_, _++_}
 use Prim.Native.Nat.{ℕ, _+_}
 use lib.ListN.{length}
@@ -11,7 +14,10 @@ use Rattle.kind.specs.Kinds.{Ops}
 use Rattle.history.specs.declared.call.Call.{Call}
 use Rattle.history.specs.Model.{Model, Step, step, in-use}
 use Rattle.script.specs.Commands.{line-call}
+use denote.Ref.{now}
 use Rattle.script.specs.Kinds.{Terms}
+use Rattle.script.specs.Lines.{lines-left}
+use Rattle.script.specs.declared.reader.Reader.{Reader}
 use Rattle.script.specs.declared.fault.ScriptFault.{ScriptFault}
 use Rattle.transcript.specs.Runs.{room}
 use Rattle.transcript.specs.Texts.{fault-line, outcome-text, end-text}
@@ -35,3 +41,13 @@ module _ {Row Edit Change : Type 0} (k : Ops Row Edit Change) (t : Terms Edit) (
   unfoldable pub print-lines : ℕ → Model Row Change → List ℕ → List (List ℕ) → List ℕ
   print-lines n m ls [] = end-text (in-use (m .records)) (length ls)
   print-lines n m ls (l ∷ lines) = print-line n m ls l .text ++ print-lines (n + 1) (print-line n m ls l .model) (print-line n m ls l .leases) lines
+
+-- p was printed behind b, and b′ is the text then; m and ls are the model and the leases after it
+pub record Behind {Row Change : Type 0} (p : Printed Row Change) (b b′ : List ℕ) (m : Model Row Change) (ls : List ℕ) : Type 0 where
+  pub text : b′ ≡ b ++ p .text
+  pub model : m ≡ p .model
+  pub leases : ls ≡ p .leases
+
+-- the lines that a reader has left
+unfoldable pub left : Reader → List (List ℕ)
+left r = lines-left (now (r .bytes)) (r .at) (r .line)
