@@ -1,1 +1,2 @@
 pub mod Bags
+mod Numbers

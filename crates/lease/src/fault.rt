@@ -1,5 +1,5 @@
 ghost use mathlib.Core.Path.{_≡_};
-ghost use Rattle.lease.specs.Card.{cause-number, cause-layer};
+ghost use Rattle.lease.specs.Card.{cause-number, cause-layer, none-open, full};
 
 // The layer that refused: a registry, a store or a script.
 #[derive(Clone, Copy)]
@@ -9,6 +9,7 @@ pub enum Layer {
     Script,
 }
 
+// Why a registry refused: no lease is open at the time, or the capacity is reached.
 #[derive(Clone, Copy)]
 pub enum RegistryCause {
     NoneOpen,
@@ -23,6 +24,27 @@ pub struct RegistryFault {
 }
 
 impl RegistryFault {
+    // The refusal of a lease more than the capacity.
+    pub fn at_capacity(capacity: u32) -> RegistryFault
+        ensures { λ r. ⌜ r ≡ full capacity ⌝ }
+    {
+        RegistryFault {
+            cause: RegistryCause::Full,
+            place: capacity,
+        }
+    }
+
+    // The refusal of a time at which no lease is open.
+    pub fn not_open(time: u32) -> RegistryFault
+        ensures { λ r. ⌜ r ≡ none-open time ⌝ }
+    {
+        RegistryFault {
+            cause: RegistryCause::NoneOpen,
+            place: time,
+        }
+    }
+
+    // The number of the refusal, by which every layer above tells it.
     pub fn number(&self) -> u8
         ensures { λ r. ⌜ r ≡ cause-number (now (self .entry) .cause) ⌝ }
     {
@@ -32,6 +54,7 @@ impl RegistryFault {
         }
     }
 
+    // The layer that refused.
     pub fn layer(&self) -> Layer
         ensures { λ r. ⌜ r ≡ cause-layer (now (self .entry) .cause) ⌝ }
     {

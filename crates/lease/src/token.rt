@@ -24,6 +24,7 @@ impl Lease {
         Lease { time, spent: false }
     }
 
+    // The lease's time, without spending it.
     pub fn time(&self) -> u32
         ensures { λ r. ⌜ r ≡ now (self .entry) .time ⌝ }
     {
@@ -34,8 +35,9 @@ impl Lease {
     pub fn write_down(mut self) -> u32
         ensures { λ r. ⌜ r ≡ self .time ⌝ }
     {
+        let time = self.time;
         self.spent = true;
-        self.time
+        time
     }
 }
 
@@ -67,6 +69,7 @@ impl Writer {
         }
     }
 
+    // The writer's number, without spending it.
     pub fn number(&self) -> u32
         ensures { λ r. ⌜ r ≡ now (self .entry) .number ⌝ }
     {
@@ -77,7 +80,8 @@ impl Writer {
     pub fn write_down(mut self) -> u32
         ensures { λ r. ⌜ r ≡ self .number ⌝ }
     {
+        let number = self.number;
         self.spent = true;
-        self.number
+        number
     }
 }

@@ -1,6 +1,5 @@
 // The slot table: a registry with one slot for each lease.
 ghost use Rattle.slot_table.specs.Slots.{slot-times, slot-count};
-use lease::fault::RegistryCause;
 use lease::fault::RegistryFault;
 use lease::registry::Registry;
 
@@ -33,10 +32,7 @@ pub impl Registry for SlotTable as SlotTableRegistry {
 
     fn add(&mut self, time: u32) -> Result<(), RegistryFault> {
         let Some(i) = scan::free_slot(&self.slots) else {
-            return Err(RegistryFault {
-                cause: RegistryCause::Full,
-                place: Self::CAPACITY,
-            });
+            return Err(RegistryFault::at_capacity(Self::CAPACITY));
         };
         self.slots[i] = Some(time);
         Ok(())
@@ -44,10 +40,7 @@ pub impl Registry for SlotTable as SlotTableRegistry {
 
     fn remove(&mut self, time: u32) -> Result<(), RegistryFault> {
         let Some(i) = scan::slot_of(&self.slots, time) else {
-            return Err(RegistryFault {
-                cause: RegistryCause::NoneOpen,
-                place: time,
-            });
+            return Err(RegistryFault::not_open(time));
         };
         self.slots[i] = None;
         Ok(())

@@ -1,6 +1,6 @@
 // Passes over the slots: counting, the least time, and finding a slot.
 ghost use mathlib.Core.Path.{_≡_};
-ghost use Prim.Native.Nat.{_≤_};
+ghost use Prim.Native.Nat.{_≤_, min};
 ghost use lib.ListN.{length};
 ghost use Rattle.lease.specs.Times.{count, least};
 ghost use Rattle.slot_table.specs.Slots.{taken, slot-count, Free, Holding};
@@ -35,6 +35,13 @@ pub fn held(slots: &[Option<u32>]) -> u32
     n
 }
 
+// The smaller of two times.
+fn nearer(a: u32, b: u32) -> u32
+    ensures { λ r. ⌜ r ≡ min a b ⌝ }
+{
+    if b < a { b } else { a }
+}
+
 // The least held time at or above a time, or none.
 pub fn least_held(slots: &[Option<u32>], time: u32) -> Option<u32>
     ensures { λ r. ⌜ r ≡ least time (taken (now (slots .entry))) ⌝ }
@@ -44,7 +51,7 @@ pub fn least_held(slots: &[Option<u32>], time: u32) -> Option<u32>
         if let Some(held) = slot {
             if time <= *held {
                 best = match best {
-                    Some(sooner) => Some(sooner.min(*held)),
+                    Some(sooner) => Some(nearer(sooner, *held)),
                     None => Some(*held),
                 };
             }

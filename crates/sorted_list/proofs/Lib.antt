@@ -1,1 +1,5 @@
-mod Pour
+mod Places
+mod Meaning
+mod Placing
+mod Changing
+mod Taking

@@ -5,14 +5,16 @@ ghost use Prim.Native.Nat.{_≤_};
 ghost use lib.ListN.{take};
 ghost use Rattle.sorted_list.specs.Entries.{times, size, rising, list-capacity};
 use crate::entry::Entry;
-use lease::fault::RegistryCause;
 use lease::fault::RegistryFault;
 use lease::registry::Registry;
 
-pub mod entry;
+mod entry;
 mod shift;
 
 const PLACES: usize = 32;
+
+// An entry goes with its last lease.
+const LAST: u32 = 1;
 
 // The first `len` places hold the entries in rising order. Every entry has a lease, so that as many places
 // as leases are enough.
@@ -37,17 +39,24 @@ pub impl Registry for SortedList as SortedListRegistry {
     }
 
     fn empty() -> SortedList {
-        SortedList { entries: [Entry { time: 0, count: 0 }; PLACES], len: 0 }
+        SortedList {
+            entries: [Entry { time: 0, count: 0 }; PLACES],
+            len: 0,
+        }
     }
 
     fn add(&mut self, time: u32) -> Result<(), RegistryFault> {
-        if self.total() >= Self::CAPACITY {
-            return Err(RegistryFault { cause: RegistryCause::Full, place: Self::CAPACITY });
+        let held = self.total();
+        if held >= Self::CAPACITY {
+            return Err(RegistryFault::at_capacity(Self::CAPACITY));
         }
         match entry::place_of(&self.entries[0..self.len], time) {
             Some(i) => {
                 let old = self.entries[i];
-                self.entries[i] = Entry { time, count: old.count + 1 };
+                self.entries[i] = Entry {
+                    time,
+                    count: old.count + 1,
+                };
             }
             None => {
                 shift::put_in(&mut self.entries, self.len, Entry { time, count: 1 });
@@ -59,11 +68,14 @@ pub impl Registry for SortedList as SortedListRegistry {
 
     fn remove(&mut self, time: u32) -> Result<(), RegistryFault> {
         let Some(i) = entry::place_of(&self.entries[0..self.len], time) else {
-            return Err(RegistryFault { cause: RegistryCause::NoneOpen, place: time });
+            return Err(RegistryFault::not_open(time));
         };
         let old = self.entries[i];
-        if old.count > 1 {
-            self.entries[i] = Entry { time, count: old.count - 1 };
+        if old.count > LAST {
+            self.entries[i] = Entry {
+                time,
+                count: old.count - 1,
+            };
         } else {
             shift::take_out(&mut self.entries, self.len, i);
             self.len -= 1;

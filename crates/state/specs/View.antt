@@ -1,6 +1,7 @@
 -- What a state means, and what its checks answer.
 --     stored r vs     a record of the table with its list: a held record's list has the holder's change first, and behind it the chain
 --     view s          the model that the state s is
+--     table-records t, table-versions t    how many records and versions empty tables are for
 --     Placed, Owned   what the checks of a record's number and of the right to change it answer
 use mathlib.Core.Path.{_≡_}
 use mathlib.Core.List.{List, [], _∷_}
@@ -19,6 +20,7 @@ use Rattle.history.specs.History.{Hold, free, held}
 use Rattle.history.specs.Model.{Stored, Model, no-record, refused-own}
 use Rattle.state.specs.declared.entry.Entry.{Entry}
 use Rattle.state.specs.declared.state.State.{State}
+use Rattle.state.specs.declared.tables.Tables.{Tables}
 
 abbrev pub hold-of : {C : Type 0} → Option ℕ → List (Version C) → Hold C
 hold-of None vs = free
@@ -50,3 +52,10 @@ Placed m i (Err f) = (length (m .records) ≤ i) × (f ≡ no-record i)
 unfoldable pub Owned : {Row Edit C U : Type 0} → Ops Row Edit C → Model Row C → ℕ → ℕ → Result U StoreFault → Type 0
 Owned k m w i (Ok u) = refused-own k m w i ≡ None
 Owned k m w i (Err f) = refused-own k m w i ≡ Some f
+
+-- how many records and versions empty tables are for
+abbrev pub table-records : {K Row Edit C : Type 0} → Tables K Row Edit C → ℕ
+table-records t = length (vec-items (t .records))
+
+abbrev pub table-versions : {K Row Edit C : Type 0} → Tables K Row Edit C → ℕ
+table-versions t = capacity (t .table)

@@ -2,6 +2,7 @@
 pub mod entry;
 pub mod state;
 pub mod tables;
+pub mod making;
 pub mod reads;
 pub mod changes;
 pub mod endings;

@@ -6,7 +6,7 @@ use Rattle.slot_table.proofs.SlotTableRegistry.add.Needs as need
 
 pub returns-in-rest : need.returns-in-rest
 returns-in-rest c =
-    (length-sorted (taken (c .args .self .now .slots)) ∙ c .in-rest .ensures tt ∙ omega arith, refl, refl)
+    (length-sorted (taken (c .args .self .now .slots)) ∙ c .in-rest .ensures tt ∙ omega arith, c .at-capacity .ensures, refl)
 
 pub returns : need.returns
 returns c =

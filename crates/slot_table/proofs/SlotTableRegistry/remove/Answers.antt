@@ -6,7 +6,7 @@ use Rattle.slot_table.proofs.SlotTableRegistry.remove.Needs as need
 
 pub returns-in-rest : need.returns-in-rest
 returns-in-rest c =
-    (count-sorted (c .args .time) (taken (c .args .self .now .slots)) ∙ c .in-rest .ensures tt, refl, refl)
+    (count-sorted (c .args .time) (taken (c .args .self .now .slots)) ∙ c .in-rest .ensures tt, c .not-open .ensures, refl)
 
 pub returns : need.returns
 returns c =

@@ -1,14 +1,8 @@
-use mathlib.Core.Path.{_≡_, ap, sym, _∙_, refl}
-use mathlib.Core.Bool.{Bool, true, false}
-use mathlib.Core.List.{List}
-use Prim.Native.Nat.{ℕ, _+_, _<_, suc}
+use mathlib.Core.Path.{ap}
 use native.Mathlib.Omega.{arith}
-use lib.ListN.{length, getD, drop}
-use Rattle.std.specs.Options.{isSome}
-use Rattle.std.specs.declared.option.Option.{Option}
-use Rattle.std.specs.declared.option.Option.the-variants.{Some, None}
+use lib.ListN.{length}
 use Rattle.slot_table.specs.Slots.{taken}
-use Rattle.slot_table.proofs.Filling.{taken-some, taken-none, taken-all, length-full, length-empty}
+use Rattle.slot_table.proofs.Filling.{taken-all, length-full, length-empty}
 use Rattle.slot_table.proofs.scan.held.Needs as need
 use Rattle.slot_table.proofs.scan.held.Needs.{then-is-some, else-is-some}
 

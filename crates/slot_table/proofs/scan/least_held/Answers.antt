@@ -1,10 +1,10 @@
-use mathlib.Core.Path.{_≡_, refl, sym, ap, _∙_}
+use mathlib.Core.Path.{_≡_, sym, ap, _∙_}
 use Prim.Native.Nat.{_+_}
 use lib.ListN.{drop}
 use Rattle.slot_table.specs.Slots.{taken}
 use native.Mathlib.Omega.{arith}
 use Rattle.std.proofs.shelf.Ways.{tells}
-use Rattle.std.specs.declared.option.Option.the-variants.{Some, None}
+use Rattle.std.specs.declared.option.Option.the-variants.{Some}
 use Rattle.lease.specs.Times.{least, sooner}
 use Rattle.slot_table.proofs.Filling.{taken-some, taken-none, taken-all, least-some, first-step}
 use Rattle.lease.proofs.Bags.{sooner-assoc, sooner-none}
@@ -22,7 +22,7 @@ loop-slot-again c =
       | in-Some·then-time-held·in-Some-best w ↦
           let e = least-some t xs i (w .in-Some .held) h (w .in-Some .is) (w .if-time-held .taken) in
           let a = sooner-assoc (Some (w .in-Some-best .sooner)) (Some (w .in-Some .held)) (least t (taken (drop (i + 1) xs))) in
-          let m : c .match-slot .best ≡ sooner (Some (w .in-Some-best .sooner)) (Some (w .in-Some .held)) = w .best-is ∙ ap (λ n. Some n) (w .min .ensures) in
+          let m : c .match-slot .best ≡ sooner (Some (w .in-Some-best .sooner)) (Some (w .in-Some .held)) = w .best-is ∙ ap (λ n. Some n) (w .nearer .ensures) in
           cc
       | in-Some·then-time-held·in-None w ↦
           first-step _ _ _ _ _ (w .in-Some .held) (w .in-None .is) (w .best-is) (least-some t xs i (w .in-Some .held) h (w .in-Some .is) (w .if-time-held .taken)) inv

@@ -1,6 +1,7 @@
-use mathlib.Core.Path.{_≡_, refl, sym, ap, _∙_}
+use mathlib.Core.Path.{sym, ap, _∙_}
 use lib.ListN.{take}
-use Rattle.sorted_list.proofs.Pour.{length-times, mid-all}
+use Rattle.sorted_list.proofs.Places.{mid-all}
+use Rattle.sorted_list.proofs.Meaning.{length-times}
 use Rattle.sorted_list.specs.Entries.{size}
 use Rattle.sorted_list.proofs.SortedListRegistry.total.Needs as need
 

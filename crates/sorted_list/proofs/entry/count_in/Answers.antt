@@ -1,12 +1,10 @@
-use mathlib.Core.Path.{_≡_, refl, sym, ap, _∙_}
-use mathlib.Core.Bool.{true}
+use mathlib.Core.Path.{sym, _∙_}
 use Prim.Native.Nat.{_+_}
 use lib.ListN.{getD, drop}
 use Rattle.std.proofs.shelf.Lists.{at-drop-more, at-drop-all}
 use Rattle.lease.specs.Times.{count}
-use Rattle.sorted_list.specs.declared.entry.Entry.{Entry}
 use Rattle.sorted_list.specs.Entries.{times, rising, no-entry}
-use Rattle.sorted_list.proofs.Pour.{rising-tail, count-hit, count-skip}
+use Rattle.sorted_list.proofs.Meaning.{rising-tail, count-hit, count-skip}
 use Rattle.sorted_list.proofs.entry.count_in.Needs as need
 
 pub returns-then-e-time : need.returns-then-e-time
@@ -25,10 +23,11 @@ loop-e-again c =
     let i = c .loop-e .e-index in
     let h = c .loop-e-test .taken in
     let d = no-entry in
-    let r = sym (at-drop-more rising es i d h) ∙ c .loop-e .inv .1 in
-    (sym (count-skip (c .args .time) (getD es i d) (drop (i + 1) es) (c .if-e-time .left))
-     ∙ sym (at-drop-more (λ ys. count (c .args .time) (times ys)) es i d h) ∙ c .loop-e .inv .0,
-     rising-tail (getD es i d) (drop (i + 1) es) r)
+    let r = sym (at-drop-more rising es i d h) ∙ c .loop-e .inv .1 in (
+      sym (count-skip (c .args .time) (getD es i d) (drop (i + 1) es) (c .if-e-time .left))
+          ∙ sym (at-drop-more (λ ys. count (c .args .time) (times ys)) es i d h) ∙ c .loop-e .inv .0,
+      rising-tail (getD es i d) (drop (i + 1) es) r,
+    )
 
 pub returns : need.returns
 returns c =

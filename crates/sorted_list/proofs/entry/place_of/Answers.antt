@@ -1,7 +1,7 @@
-use mathlib.Core.Path.{_≡_, refl, sym, ap, _∙_}
+use mathlib.Core.Path.{sym, _∙_}
 use Rattle.std.proofs.shelf.Lists.{at-drop-all}
 use Rattle.sorted_list.specs.Entries.{absent, no-entry}
-use Rattle.sorted_list.proofs.Pour.{absent-more}
+use Rattle.sorted_list.proofs.Meaning.{absent-more}
 use Rattle.sorted_list.proofs.entry.place_of.Needs as need
 
 pub loop-i-again : need.loop-i-again

@@ -1,11 +1,11 @@
-use mathlib.Core.Path.{_≡_, refl, sym, ap, _∙_}
+use mathlib.Core.Path.{_≡_, sym, ap, _∙_}
 use mathlib.Core.List.{List, _++_}
 use Prim.Native.Nat.{ℕ, _+_, _≤_}
 use lib.ListN.{length, take, drop}
 use native.Mathlib.Omega.{arith}
 use Rattle.sorted_list.specs.declared.entry.Entry.{Entry}
 use Rattle.sorted_list.specs.Entries.{placed, no-entry}
-use Rattle.sorted_list.proofs.Pour.{turn-on, turn-here, last-turn}
+use Rattle.sorted_list.proofs.Placing.{turn-on, turn-here, last-turn}
 use Rattle.sorted_list.proofs.shift.put_in.Needs as need
 use Rattle.sorted_list.proofs.shift.put_in.Needs.{then-carry-old, else-carry-old}
 
@@ -22,8 +22,9 @@ loop-k-again c =
     let room : len ≤ length xs = omega arith in
     let d = no-entry in
     elim (c .if-carry-old .came) [
-      then-carry-old w ↦ same len (k + 1) _ _ _ _ (w .entries-is) (w .carry-is) ∙ sym (turn-here xs len k (c .loop-k .carry) d h room (w .if-carry-old .taken)) ∙ c .loop-k .inv
-    | else-carry-old w ↦ same len (k + 1) _ _ _ _ (w .entries-is) (w .carry-is) ∙ sym (turn-on xs len k (c .loop-k .carry) d h room (w .if-carry-old .left)) ∙ c .loop-k .inv ]
+      | then-carry-old w ↦ same len (k + 1) _ _ _ _ (w .entries-is) (w .carry-is) ∙ sym (turn-here xs len k (c .loop-k .carry) d h room (w .if-carry-old .taken)) ∙ c .loop-k .inv
+      | else-carry-old w ↦ same len (k + 1) _ _ _ _ (w .entries-is) (w .carry-is) ∙ sym (turn-on xs len k (c .loop-k .carry) d h room (w .if-carry-old .left)) ∙ c .loop-k .inv
+    ]
 
 pub returns : need.returns
 returns c =

@@ -1,6 +1,6 @@
 use mathlib.Core.Path.{_≡_}
 use mathlib.Core.List.{_++_}
-use Prim.Native.Nat.{_+_, suc}
+use Prim.Native.Nat.{_+_}
 use lib.ListN.{drop, take}
 use Rattle.std.specs.Holes.{removed}
 use Rattle.sorted_list.proofs.shift.take_out.Given as given

@@ -1,0 +1,4 @@
+pub mod Allowed
+pub mod Making
+pub mod View
+pub mod Calls
