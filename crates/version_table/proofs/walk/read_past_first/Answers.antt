@@ -1,7 +1,6 @@
 use mathlib.Core.Path.{_≡_, sym, ap, _∙_}
 use mathlib.Core.List.{[]}
 use lib.ListN.{drop, getD}
-use Rattle.links.specs.Meaning.{from}
 use Rattle.version_table.specs.Chains.{chains, pick}
 use Rattle.chain.specs.Versions.{reads}
 use Rattle.links.proofs.Ways.{from-none}

@@ -1,7 +1,6 @@
 use mathlib.Core.Path.{_≡_, refl, sym, ap, subst, _∙_}
-use mathlib.Core.List.{List, [], map}
-use Prim.Native.Nat.{_≤_}
-use lib.ListN.{length, drop, getD, take}
+use mathlib.Core.List.{List, []}
+use lib.ListN.{length, drop, getD}
 use native.Mathlib.Omega.{arith}
 use Rattle.chain.specs.declared.version.Version.{Version}
 use Rattle.version_table.specs.Chains.{chains, pick, Listed}
