@@ -1,2 +1,3 @@
+mod OneLine
 mod Spaces
 mod Telling
