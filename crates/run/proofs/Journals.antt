@@ -179,7 +179,7 @@ module _ {Row Edit Change : Type 0} (k : Ops Row Edit Change) (cap v n start : �
         let one = step-lawful k laws cap v m ls (p .records) (p .sim) (length sub) (t .call) in
         let ran = run-more k cap v (asked-from (length l₀) (take i j)) (p .told) (new-history k start n) (hist k m ls (p .records)) (hist k (st .model) (st .leases) (one .records)) (record { call = t .call; given = length sub }) (st .told) (p .run) (one .fact) in
         let asked : asked-from (length l₀) (take (i + 1) (set j i turn)) ≡ asked-from (length l₀) (take i j) ++ (record { call = t .call; given = length sub } ∷ []) =
-              ap (asked-from (length l₀)) more ∙ asked-more (length l₀) (take i j) turn ∙ ap (λ z. asked-from (length l₀) (take i j) ++ (record { call = t .call; given = z } ∷ [])) (sym given) in
+        ap (asked-from (length l₀)) more ∙ asked-more (length l₀) (take i j) turn ∙ ap (λ z. asked-from (length l₀) (take i j) ++ (record { call = t .call; given = z } ∷ [])) (sym given) in
         record {
           calls = calls-set j i turn t (ap (λ (z : Turn Edit Row). z .call) at-i) ∙ p .calls;
           size = length-set j i turn ∙ p .size;
@@ -190,15 +190,15 @@ module _ {Row Edit Change : Type 0} (k : Ops Row Edit Change) (cap v n start : �
           within = omega (arith, p .within, wide, fine .1, ap length rest, length-drop u l₀);
           front = omega (arith, ap length (written-more (p .told) (st .told)), length-append (written-all (p .told)) ws, p .front, wide);
           list =
-            el
-            ∙ (λ x. (ap (take u) (p .list) ∙ take-at (written-all (p .told)) (drop u l₀) u (p .front)) x ++ (q .list ∙ (λ y. ws ++ drop (sym wide y) (rest y))) x)
-            ∙ ap (λ z. written-all (p .told) ++ (ws ++ z)) (drop-drop w u l₀)
-            ∙ sym (append-assoc (written-all (p .told)) ws (drop (u + w) l₀))
-            ∙ ap (λ z. z ++ drop (u + w) l₀) (sym (written-more (p .told) (st .told)));
+              el
+              ∙ (λ x. (ap (take u) (p .list) ∙ take-at (written-all (p .told)) (drop u l₀) u (p .front)) x ++ (q .list ∙ (λ y. ws ++ drop (sym wide y) (rest y))) x)
+              ∙ ap (λ z. written-all (p .told) ++ (ws ++ z)) (drop-drop w u l₀)
+              ∙ sym (append-assoc (written-all (p .told)) ws (drop (u + w) l₀))
+              ∙ ap (λ z. z ++ drop (u + w) l₀) (sym (written-more (p .told) (st .told)));
           records = one .records;
           sim = subst₂ (λ a b. Sim k v a b (one .records)) (sym (q .model)) (sym (q .leases)) (one .sim);
           run = subst (λ a. Run k cap v (new-history k start n) a (p .told ++ (st .told ∷ [])) (hist k m′ ls′ (one .records))) (sym asked)
-            (subst₂ (λ a b. Run k cap v (new-history k start n) (asked-from (length l₀) (take i j) ++ (record { call = t .call; given = length sub } ∷ [])) (p .told ++ (st .told ∷ [])) (hist k a b (one .records))) (sym (q .model)) (sym (q .leases)) ran);
+              (subst₂ (λ a b. Run k cap v (new-history k start n) (asked-from (length l₀) (take i j) ++ (record { call = t .call; given = length sub } ∷ [])) (p .told ++ (st .told ∷ [])) (hist k a b (one .records))) (sym (q .model)) (sym (q .leases)) ran);
         }
 
     -- at the end of the journal

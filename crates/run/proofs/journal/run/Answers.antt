@@ -35,9 +35,9 @@ add-used g c =
     let m₀ = view (c .store-store .result) in
     let h : c .loop-i .i < length (c .loop-i .journal) = omega (arith, c .loop-i-test .taken, c .loop-i .kept .journal) in
     let next = sofar-next k (g .R·Registry .capacity) (m₀ .room) (length (m₀ .records)) (m₀ .clock) (c .args .journal .now) (c .args .list .now) (g .K·Kind .laws)
-          (c .loop-i .journal) (c .loop-i .list) (c .loop-i .i) (c .loop-i .used) (view (c .loop-i .store)) (g .R·Registry .leases (c .loop-i .registry)) (c .loop-i .inv)
-          (c .index-journal-i .result) (c .perform-outcome .result) (c .wrote-used .result) (view (c .perform-outcome .last .store)) (g .R·Registry .leases (c .perform-outcome .last .registry)) _ (c .perform-outcome .last .list) _
-          h (c .index-journal-i .is) (c .wrote-used .ensures) (part-to-end (c .loop-i .list) (c .loop-i .used)) (written-behind (c .loop-i .used) (c .loop-i .list) (c .perform-outcome .last .list)) (c .perform-outcome .ensures) in
+    (c .loop-i .journal) (c .loop-i .list) (c .loop-i .i) (c .loop-i .used) (view (c .loop-i .store)) (g .R·Registry .leases (c .loop-i .registry)) (c .loop-i .inv)
+    (c .index-journal-i .result) (c .perform-outcome .result) (c .wrote-used .result) (view (c .perform-outcome .last .store)) (g .R·Registry .leases (c .perform-outcome .last .registry)) _ (c .perform-outcome .last .list) _
+    h (c .index-journal-i .is) (c .wrote-used .ensures) (part-to-end (c .loop-i .list) (c .loop-i .used)) (written-behind (c .loop-i .used) (c .loop-i .list) (c .perform-outcome .last .list)) (c .perform-outcome .ensures) in
     let fits : c .loop-i .used + c .wrote-used .result ≤ length (c .args .list .now) = next .within in
     search needs
 
@@ -47,9 +47,9 @@ loop-i-again g c =
     let m₀ = view (c .store-store .result) in
     let h : c .loop-i .i < length (c .loop-i .journal) = omega (arith, c .loop-i-test .taken, c .loop-i .kept .journal) in
     sofar-next k (g .R·Registry .capacity) (m₀ .room) (length (m₀ .records)) (m₀ .clock) (c .args .journal .now) (c .args .list .now) (g .K·Kind .laws)
-          (c .loop-i .journal) (c .loop-i .list) (c .loop-i .i) (c .loop-i .used) (view (c .loop-i .store)) (g .R·Registry .leases (c .loop-i .registry)) (c .loop-i .inv)
-          (c .index-journal-i .result) (c .perform-outcome .result) (c .wrote-used .result) (view (c .perform-outcome .last .store)) (g .R·Registry .leases (c .perform-outcome .last .registry)) _ (c .perform-outcome .last .list) _
-          h (c .index-journal-i .is) (c .wrote-used .ensures) (part-to-end (c .loop-i .list) (c .loop-i .used)) (written-behind (c .loop-i .used) (c .loop-i .list) (c .perform-outcome .last .list)) (c .perform-outcome .ensures)
+    (c .loop-i .journal) (c .loop-i .list) (c .loop-i .i) (c .loop-i .used) (view (c .loop-i .store)) (g .R·Registry .leases (c .loop-i .registry)) (c .loop-i .inv)
+    (c .index-journal-i .result) (c .perform-outcome .result) (c .wrote-used .result) (view (c .perform-outcome .last .store)) (g .R·Registry .leases (c .perform-outcome .last .registry)) _ (c .perform-outcome .last .list) _
+    h (c .index-journal-i .is) (c .wrote-used .ensures) (part-to-end (c .loop-i .list) (c .loop-i .used)) (written-behind (c .loop-i .used) (c .loop-i .list) (c .perform-outcome .last .list)) (c .perform-outcome .ensures)
 
 pub returns : need.returns
 returns g c =
