@@ -1,9 +1,10 @@
 -- The model and the history, call by call, and any run of calls.
 --     Sim room m ls fs    the model m, with the leases ls, is tied to the history whose records are fs
 --     step-lawful         one step keeps the tie, and its outcome is what the law says
+--     run-more            a run and one call more at its end
 --     sim-law             a tied model has what the law says of a store in the end
 use mathlib.Core.Path.{_≡_, refl, sym, subst, _∙_, ap}
-use mathlib.Core.List.{List, [], _∷_, map}
+use mathlib.Core.List.{List, [], _∷_, _++_, map}
 use mathlib.Core.Bool.{Bool, true, false, cond, not, _&&_, true≢false, false≢true}
 use mathlib.Core.Logic.{_⊎_, inl, inr}
 use Prim.Native.Nat.{ℕ, zero, suc, _+_, _≤_, _<_}
@@ -260,9 +261,9 @@ module _ {Row Edit Change : Type 0} (k : Ops Row Edit Change) where
             table = z .table;
             low = λ u o. omega (arith, z .low u (delete-sub w ls u o));
             ties = subst (λ xs. Ties fewer (m .clock + 1) (map (finish-record k w (m .clock + 1)) fs) xs) split
-              (ties-map (opens ls) fewer (m .clock) (m .clock + 1) _ both (λ f x h. finish-tied k laws (opens ls) fewer (m .clock) w f x (λ u o. (delete-sub w ls u o, z .low u (delete-sub w ls u o))) h) fs (m .records) (z .ties));
+                (ties-map (opens ls) fewer (m .clock) (m .clock + 1) _ both (λ f x h. finish-tied k laws (opens ls) fewer (m .clock) w f x (λ u o. (delete-sub w ls u o, z .low u (delete-sub w ls u o))) h) fs (m .records) (z .ties));
             fits = subst (λ xs. in-use xs ≤ room) split
-              (omega (arith, z .fits, map-cost k both (λ x. omega (arith, pruned-cost k fewer (finish-stored k w (m .clock + 1) x), finish-cost k w (m .clock + 1) x (x .holder) refl)) (m .records)));
+                (omega (arith, z .fits, map-cost k both (λ x. omega (arith, pruned-cost k fewer (finish-stored k w (m .clock + 1) x), finish-cost k w (m .clock + 1) x (x .holder) refl)) (m .records)));
           }
 
       abandons : (w : ℕ) → Sim room (all-pruned k (opens (delete w ls)) (record { clock = m .clock; room = m .room; records = map (free-stored k w) (m .records) })) (delete w ls) (map (free-record k w) fs)
@@ -274,15 +275,16 @@ module _ {Row Edit Change : Type 0} (k : Ops Row Edit Change) where
             table = z .table;
             low = λ u o. z .low u (delete-sub w ls u o);
             ties = subst (λ xs. Ties fewer (m .clock) (map (free-record k w) fs) xs) split
-              (ties-map (opens ls) fewer (m .clock) (m .clock) _ both (λ f x h. pruned-tied k laws (opens ls) fewer (m .clock) (m .clock) _ _ (omega arith) (delete-sub w ls) (free-tied k laws (opens ls) (m .clock) w f x h)) fs (m .records) (z .ties));
+                (ties-map (opens ls) fewer (m .clock) (m .clock) _ both (λ f x h. pruned-tied k laws (opens ls) fewer (m .clock) (m .clock) _ _ (omega arith) (delete-sub w ls) (free-tied k laws (opens ls) (m .clock) w f x h)) fs (m .records) (z .ties));
             fits = subst (λ xs. in-use xs ≤ room) split
-              (omega (arith, z .fits, map-cost k both (λ x. omega (arith, pruned-cost k fewer (free-stored k w x), free-cost k w x (x .holder))) (m .records)));
+                (omega (arith, z .fits, map-cost k both (λ x. omega (arith, pruned-cost k fewer (free-stored k w x), free-cost k w x (x .holder))) (m .records)));
           }
 
       changes : (w i : ℕ) (e : Edit) → (is-free (record-at k m i .holder) && leb (m .room) (in-use (m .records))) ≡ false → Sim room (record { clock = m .clock; room = m .room; records = change-at (change-stored k w e) (m .records) i }) ls (change-at (change-record k w e) fs i)
       changes w i e b =
           record {
-            table = z .table; low = z .low;
+            table = z .table;
+            low = z .low;
             ties = ties-at (opens ls) (m .clock) _ _ (change-tied k laws (opens ls) (m .clock) w e) fs (m .records) i (z .ties);
             fits = go (is-free (record-at k m i .holder)) refl b;
           }
@@ -375,10 +377,17 @@ module _ {Row Edit Change : Type 0} (k : Ops Row Edit Change) where
           go : i < length (m .records) → Decided room (keeps k (hist m ls fs) n (record-of k (hist m ls fs) i)) m ls (or-else (ltb n (length (record-at k m i .chain))) (list-short (length (record-at k m i .chain))) None) (does (record { outcome = Kept (length (record-at k m i .chain)); written = times (record-at k m i .chain) }) m ls)
           go h =
               let r : Decided room (too-short (hist m ls fs) n (length (x .chain)) (λ p h″. (p ≡ record { outcome = Kept (length (x .chain)); written = times (x .chain) }) × (h″ ≡ hist m ls fs))) m ls (or-else (ltb n (length (x .chain))) (list-short (length (x .chain))) None) (does (record { outcome = Kept (length (x .chain)); written = times (x .chain) }) m ls) =
-                    checked (list-short (length (x .chain))) (ltb n (length (x .chain))) (ltb-true n (length (x .chain))) (λ b g. omega (arith, ltb-false n (length (x .chain)) b)) (λ _. accepted (stays _ (refl, refl))) in
+              checked (list-short (length (x .chain))) (ltb n (length (x .chain))) (ltb-true n (length (x .chain))) (λ b g. omega (arith, ltb-false n (length (x .chain)) b)) (λ _. accepted (stays _ (refl, refl))) in
               let y = r .met in
               record { met = record { records = y .records; fact = (x .chain, tied-right (opens ls) (m .clock) _ x (tied-at i h), y .fact); sim = y .sim } }
       step-lawful n call-in-use = stays (plain (InUse (in-use (m .records)))) (in-use (m .records), needed-now, refl, refl)
+
+    -- one call more at the end of a run
+    pub run-more : (cap room : ℕ) (cs : List (Asked Edit)) (os : List (Told Row)) (h mid h′ : History Row) (c : Asked Edit) (o : Told Row) → Run k cap room h cs os mid → Answers k mid cap room (c .given) (c .call) o h′ → Run k cap room h (cs ++ (c ∷ [])) (os ++ (o ∷ [])) h′
+    run-more cap room [] [] h mid h′ c o r a = (h′, subst (λ z. Answers k z cap room (c .given) (c .call) o h′) r a, refl)
+    run-more cap room [] (p ∷ os) h mid h′ c o r a = absurd r
+    run-more cap room (d ∷ cs) [] h mid h′ c o r a = absurd r
+    run-more cap room (d ∷ cs) (p ∷ os) h mid h′ c o r a = (r .0, r .1, run-more cap room cs os (r .0) mid h′ c o (r .2) a)
 
     module _ (cap room : ℕ) where
       pub record Ran (m : Model Row Change) (ls : List ℕ) (fs : List (Record Row)) (cs : List (Asked Edit)) : Type 0 where
@@ -398,7 +407,11 @@ module _ {Row Edit Change : Type 0} (k : Ops Row Edit Change) where
       pub sim-law : (n start : ℕ) (calls : List (Asked Edit)) (outs : List (Told Row)) (m : Model Row Change) (ls : List ℕ) (fs : List (Record Row)) → Sim room m ls fs → Run k cap room (new-history k start n) calls outs (hist m ls fs) → Law k cap room n start calls outs (m .clock) ls (kept-chains (m .records)) (in-use (m .records))
       sim-law n start calls outs m ls fs z r =
           record {
-            history = hist m ls fs; run = r; time = refl; open-leases = refl; fits = z .fits;
+            history = hist m ls fs;
+            run = r;
+            time = refl;
+            open-leases = refl;
+            fits = z .fits;
             right = all-right (opens ls) (m .clock) fs (m .records) (z .ties);
             needed = ties-needed (opens ls) (m .clock) fs (m .records) (z .ties);
           }

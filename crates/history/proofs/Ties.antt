@@ -47,7 +47,11 @@ module _ {Row Edit Change : Type 0} (k : Ops Row Edit Change) where
         let late : x .last ≤ t = omega (arith, d .early) in
         let reach : f .newest .row ≡ past k f t = sym (ap (λ b. cond b (f .newest .row) (reading (k .blank) (f .older) t)) (le-leb (f .newest .time) t (omega (arith, d .last)))) in
         record {
-          last = d .last; early = late; within = d .within; newest = d .newest; holds = d .holds;
+          last = d .last;
+          early = late;
+          within = d .within;
+          newest = d .newest;
+          holds = d .holds;
           right = open-keeps k os more (finished-row k x) (past k f) (x .chain) t cases keeps (atmost-mono (x .chain) (x .last) t late (d .within)) (d .newest ∙ ap (k .tells) reach) (d .right);
         }
 
@@ -55,7 +59,10 @@ module _ {Row Edit Change : Type 0} (k : Ops Row Edit Change) where
     pub pruned-tied : (os fewer : ℕ → ℕ) (clock t : ℕ) (f : Record Row) (x : Stored Row Change) → clock ≤ t → ((s : ℕ) → Open fewer s → Open os s) → Tied os clock f x → Tied fewer t f (pruned k fewer x)
     pruned-tied os fewer clock t f x h sub d =
         record {
-          last = d .last; early = omega (arith, d .early); newest = d .newest; holds = d .holds;
+          last = d .last;
+          early = omega (arith, d .early);
+          newest = d .newest;
+          holds = d .holds;
           within = pruned-atmost k fewer (x .chain) (finished-row k x) (x .last) (d .within);
           right = close-keeps k laws os fewer (finished-row k x) (past k f) (x .chain) sub (d .right);
         }
@@ -64,7 +71,11 @@ module _ {Row Edit Change : Type 0} (k : Ops Row Edit Change) where
     moved : (os : ℕ → ℕ) (clock : ℕ) (f : Record Row) (x : Stored Row Change) (p : Row) (h : Hold Row) (g : Hold Change) → Tied os clock f x → k .tells (finished-row k x) ≡ k .tells (finished-under k p g) → Holds p h g → Tied os clock (rec (f .newest) (f .older) h) (stored p g (x .last) (x .chain))
     moved os clock f x p h g d e hold =
         record {
-          last = d .last; early = d .early; within = d .within; newest = sym e ∙ d .newest; holds = hold;
+          last = d .last;
+          early = d .early;
+          within = d .within;
+          newest = sym e ∙ d .newest;
+          holds = hold;
           right = right-row k laws os (finished-row k x) (finished-under k p g) (past k f) (x .chain) e (d .right);
         }
 
@@ -123,11 +134,14 @@ module _ {Row Edit Change : Type 0} (k : Ops Row Edit Change) where
             done : Tied fewer (clock + 1) (rec (record { time = clock + 1; row = r }) hs free) (pruned k fewer (stored (x .place) free (clock + 1) (version ∷ x .chain)))
             done =
                 record {
-                  last = refl; early = omega arith; newest = sym (d .holds .1); holds = tt;
+                  last = refl;
+                  early = omega arith;
+                  newest = sym (d .holds .1);
+                  holds = tt;
                   within = pruned-atmost k fewer (version ∷ x .chain) (x .place) (clock + 1) (omega arith, before);
                   right =
-                    right-full k fewer (x .place) _ _ _ (λ s o. ap (k .tells) (older (x .place) s o ∙ sym (older r s o)))
-                    (commit-keeps k laws os fewer (k .undo (x .place) c) (x .place) (k .blank) hs (x .chain) version (λ s o. (sub s o .0, omega (arith, sub s o .1))) before refl (d .right));
+                      right-full k fewer (x .place) _ _ _ (λ s o. ap (k .tells) (older (x .place) s o ∙ sym (older r s o)))
+                      (commit-keeps k laws os fewer (k .undo (x .place) c) (x .place) (k .blank) hs (x .chain) version (λ s o. (sub s o .0, omega (arith, sub s o .1))) before refl (d .right));
                 }
 
             test : (a b : Bool) → a ≡ b → Tied fewer (clock + 1) (cond a (rec (record { time = clock + 1; row = r }) hs free) (rec (f .newest) (f .older) (held v r))) (pruned k fewer (cond b (stored (x .place) free (clock + 1) (version ∷ x .chain)) (stored (x .place) (held u c) (x .last) (x .chain))))

@@ -25,30 +25,30 @@ pub record Wrong-stores : Type 0 where
   -- after a commit with no lease open below it, nothing is kept
   pub drops-nothing : Wrong 2 (call-begin ∷ call-change 1 0 5 ∷ call-commit 1 ∷ call-kept 0 ∷ []) (plain (Began 1) ∷ plain Changed ∷ plain (Committed 2 1) ∷ kept 1 (2 ∷ []) ∷ [])
   pub prunes-at-commit-alone :
-    Wrong 2 (call-open ∷ call-begin ∷ call-change 1 0 5 ∷ call-commit 1 ∷ call-close 0 ∷ call-kept 0 ∷ [])
-    (plain (Opened 0) ∷ plain (Began 1) ∷ plain Changed ∷ plain (Committed 2 1) ∷ plain Closed ∷ kept 1 (2 ∷ []) ∷ [])
+      Wrong 2 (call-open ∷ call-begin ∷ call-change 1 0 5 ∷ call-commit 1 ∷ call-close 0 ∷ call-kept 0 ∷ [])
+      (plain (Opened 0) ∷ plain (Began 1) ∷ plain Changed ∷ plain (Committed 2 1) ∷ plain Closed ∷ kept 1 (2 ∷ []) ∷ [])
   pub invents-the-number :
-    Wrong 2 (call-open ∷ call-begin ∷ call-change 1 0 5 ∷ call-commit 1 ∷ call-kept 0 ∷ [])
-    (plain (Opened 0) ∷ plain (Began 1) ∷ plain Changed ∷ plain (Committed 2 1) ∷ kept 2 (2 ∷ 1 ∷ []) ∷ [])
+      Wrong 2 (call-open ∷ call-begin ∷ call-change 1 0 5 ∷ call-commit 1 ∷ call-kept 0 ∷ [])
+      (plain (Opened 0) ∷ plain (Began 1) ∷ plain Changed ∷ plain (Committed 2 1) ∷ kept 2 (2 ∷ 1 ∷ []) ∷ [])
   pub newest-rows-only :
-    Wrong 2 (call-open ∷ call-begin ∷ call-change 1 0 5 ∷ call-commit 1 ∷ call-read 0 0 ∷ [])
-    (plain (Opened 0) ∷ plain (Began 1) ∷ plain Changed ∷ plain (Committed 2 1) ∷ plain (Shown 5) ∷ [])
+      Wrong 2 (call-open ∷ call-begin ∷ call-change 1 0 5 ∷ call-commit 1 ∷ call-read 0 0 ∷ [])
+      (plain (Opened 0) ∷ plain (Began 1) ∷ plain Changed ∷ plain (Committed 2 1) ∷ plain (Shown 5) ∷ [])
   -- it prunes as if nothing were open; and it reads where nothing is open
   pub never-asks-the-registry :
-    Wrong 2 (call-open ∷ call-begin ∷ call-change 1 0 5 ∷ call-commit 1 ∷ call-in-use ∷ [])
-    (plain (Opened 0) ∷ plain (Began 1) ∷ plain Changed ∷ plain (Committed 2 1) ∷ plain (InUse 0) ∷ [])
+      Wrong 2 (call-open ∷ call-begin ∷ call-change 1 0 5 ∷ call-commit 1 ∷ call-in-use ∷ [])
+      (plain (Opened 0) ∷ plain (Began 1) ∷ plain Changed ∷ plain (Committed 2 1) ∷ plain (InUse 0) ∷ [])
   pub reads-without-a-lease : Wrong 2 (call-read 0 0 ∷ []) (plain (Shown 0) ∷ [])
   pub seven-too-soon : Wrong 1 (call-begin ∷ call-change 1 0 5 ∷ []) (plain (Began 1) ∷ plain (Refused 7 layer-b 0) ∷ [])
   pub seven-too-late : Wrong 0 (call-begin ∷ call-change 1 0 5 ∷ []) (plain (Began 1) ∷ plain Changed ∷ [])
   -- a dropped version is not used again
   pub never-again :
-    Wrong 1 (call-begin ∷ call-change 1 0 5 ∷ call-commit 1 ∷ call-begin ∷ call-change 3 0 6 ∷ [])
-    (plain (Began 1) ∷ plain Changed ∷ plain (Committed 2 1) ∷ plain (Began 3) ∷ plain (Refused 7 layer-b 0) ∷ [])
+      Wrong 1 (call-begin ∷ call-change 1 0 5 ∷ call-commit 1 ∷ call-begin ∷ call-change 3 0 6 ∷ [])
+      (plain (Began 1) ∷ plain Changed ∷ plain (Committed 2 1) ∷ plain (Began 3) ∷ plain (Refused 7 layer-b 0) ∷ [])
   pub refuses-always : Wrong 2 (call-open ∷ []) (plain (Refused 8 layer-r 8) ∷ [])
   pub does-nothing : Wrong 2 (call-begin ∷ call-change 1 0 5 ∷ call-look 1 0 ∷ []) (plain (Began 1) ∷ plain Changed ∷ plain (Shown 0) ∷ [])
   pub one-row-always :
-    Wrong 2 (call-begin ∷ call-change 1 0 5 ∷ call-look 1 0 ∷ call-abandon 1 ∷ call-begin ∷ call-look 2 0 ∷ [])
-    (plain (Began 1) ∷ plain Changed ∷ plain (Shown 5) ∷ plain (Abandoned 1) ∷ plain (Began 2) ∷ plain (Shown 5) ∷ [])
+      Wrong 2 (call-begin ∷ call-change 1 0 5 ∷ call-look 1 0 ∷ call-abandon 1 ∷ call-begin ∷ call-look 2 0 ∷ [])
+      (plain (Began 1) ∷ plain Changed ∷ plain (Shown 5) ∷ plain (Abandoned 1) ∷ plain (Began 2) ∷ plain (Shown 5) ∷ [])
   -- fewer outcomes than calls
   pub says-less : Wrong 2 (call-open ∷ call-open ∷ []) (plain (Opened 0) ∷ [])
 

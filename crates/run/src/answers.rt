@@ -29,7 +29,12 @@ pub(crate) fn open<K: Kind, R: Registry>(store: &Store<K>, registry: &mut R) -> 
     }
 }
 
-pub(crate) fn read<K: Kind, R: Registry>(store: &Store<K>, registry: &R, t: u32, record: u64) -> Outcome<K::Row>
+pub(crate) fn read<K: Kind, R: Registry>(
+    store: &Store<K>,
+    registry: &R,
+    t: u32,
+    record: u64,
+) -> Outcome<K::Row>
     ensures { λ o. ⌜ Plain (step (K·Kind .ops) (R·Registry .capacity) (view (now (store .entry))) (R·Registry .leases (now (registry .entry))) 0 (Call.Read t «record»)) o (view (now (store .entry))) (R·Registry .leases (now (registry .entry))) ⌝ }
 {
     let lease = Lease::take_up(t);
@@ -42,7 +47,11 @@ pub(crate) fn read<K: Kind, R: Registry>(store: &Store<K>, registry: &R, t: u32,
     }
 }
 
-pub(crate) fn close<K: Kind, R: Registry>(store: &mut Store<K>, registry: &mut R, t: u32) -> Outcome<K::Row>
+pub(crate) fn close<K: Kind, R: Registry>(
+    store: &mut Store<K>,
+    registry: &mut R,
+    t: u32,
+) -> Outcome<K::Row>
     ensures { λ o. ⌜ Plain (step (K·Kind .ops) (R·Registry .capacity) (view (now (store .entry))) (R·Registry .leases (now (registry .entry))) 0 (Call.Close t)) o (view (now (store .exit))) (R·Registry .leases (now (registry .exit))) ⌝ }
 {
     match store.close(registry, Lease::take_up(t)) {
@@ -60,7 +69,12 @@ pub(crate) fn begin<K: Kind, R: Registry>(store: &mut Store<K>, registry: &mut R
     }
 }
 
-pub(crate) fn look<K: Kind, R: Registry>(store: &Store<K>, registry: &R, w: u32, record: u64) -> Outcome<K::Row>
+pub(crate) fn look<K: Kind, R: Registry>(
+    store: &Store<K>,
+    registry: &R,
+    w: u32,
+    record: u64,
+) -> Outcome<K::Row>
     ensures { λ o. ⌜ Plain (step (K·Kind .ops) (R·Registry .capacity) (view (now (store .entry))) (R·Registry .leases (now (registry .entry))) 0 (Call.Look w «record»)) o (view (now (store .entry))) (R·Registry .leases (now (registry .entry))) ⌝ }
 {
     let writer = Writer::take_up(w);
@@ -73,7 +87,13 @@ pub(crate) fn look<K: Kind, R: Registry>(store: &Store<K>, registry: &R, w: u32,
     }
 }
 
-pub(crate) fn change<K: Kind, R: Registry>(store: &mut Store<K>, registry: &R, w: u32, record: u64, edit: K::Edit) -> Outcome<K::Row>
+pub(crate) fn change<K: Kind, R: Registry>(
+    store: &mut Store<K>,
+    registry: &R,
+    w: u32,
+    record: u64,
+    edit: K::Edit,
+) -> Outcome<K::Row>
     ensures { λ o. ⌜ Plain (step (K·Kind .ops) (R·Registry .capacity) (view (now (store .entry))) (R·Registry .leases (now (registry .entry))) 0 (Call.Change w «record» edit)) o (view (now (store .exit))) (R·Registry .leases (now (registry .entry))) ⌝ }
 {
     let writer = Writer::take_up(w);
@@ -85,7 +105,11 @@ pub(crate) fn change<K: Kind, R: Registry>(store: &mut Store<K>, registry: &R, w
     }
 }
 
-pub(crate) fn commit<K: Kind, R: Registry>(store: &mut Store<K>, registry: &mut R, w: u32) -> Outcome<K::Row>
+pub(crate) fn commit<K: Kind, R: Registry>(
+    store: &mut Store<K>,
+    registry: &mut R,
+    w: u32,
+) -> Outcome<K::Row>
     ensures { λ o. ⌜ Plain (step (K·Kind .ops) (R·Registry .capacity) (view (now (store .entry))) (R·Registry .leases (now (registry .entry))) 0 (Call.Commit w)) o (view (now (store .exit))) (R·Registry .leases (now (registry .exit))) ⌝ }
 {
     match store.commit(registry, Writer::take_up(w)) {
@@ -97,13 +121,22 @@ pub(crate) fn commit<K: Kind, R: Registry>(store: &mut Store<K>, registry: &mut 
     }
 }
 
-pub(crate) fn abandon<K: Kind, R: Registry>(store: &mut Store<K>, registry: &mut R, w: u32) -> Outcome<K::Row>
+pub(crate) fn abandon<K: Kind, R: Registry>(
+    store: &mut Store<K>,
+    registry: &mut R,
+    w: u32,
+) -> Outcome<K::Row>
     ensures { λ o. ⌜ Plain (step (K·Kind .ops) (R·Registry .capacity) (view (now (store .entry))) (R·Registry .leases (now (registry .entry))) 0 (Call.Abandon w)) o (view (now (store .exit))) (R·Registry .leases (now (registry .exit))) ⌝ }
 {
     Outcome::Abandoned(store.abandon(registry, Writer::take_up(w)))
 }
 
-pub(crate) fn held<K: Kind, R: Registry>(store: &Store<K>, registry: &R, w: u32, list: &mut [u32]) -> Outcome<K::Row>
+pub(crate) fn held<K: Kind, R: Registry>(
+    store: &Store<K>,
+    registry: &R,
+    w: u32,
+    list: &mut [u32],
+) -> Outcome<K::Row>
     ensures { λ o. ⌜ Performed (step (K·Kind .ops) (R·Registry .capacity) (view (now (store .entry))) (R·Registry .leases (now (registry .entry))) (length (now (list .entry))) (Call.Held w)) o (view (now (store .entry))) (R·Registry .leases (now (registry .entry))) (now (list .entry)) (now (list .exit)) ⌝ }
 {
     let writer = Writer::take_up(w);
@@ -115,7 +148,12 @@ pub(crate) fn held<K: Kind, R: Registry>(store: &Store<K>, registry: &R, w: u32,
     }
 }
 
-pub(crate) fn kept<K: Kind, R: Registry>(store: &Store<K>, registry: &R, record: u64, list: &mut [u32]) -> Outcome<K::Row>
+pub(crate) fn kept<K: Kind, R: Registry>(
+    store: &Store<K>,
+    registry: &R,
+    record: u64,
+    list: &mut [u32],
+) -> Outcome<K::Row>
     ensures { λ o. ⌜ Performed (step (K·Kind .ops) (R·Registry .capacity) (view (now (store .entry))) (R·Registry .leases (now (registry .entry))) (length (now (list .entry))) (Call.Kept «record»)) o (view (now (store .entry))) (R·Registry .leases (now (registry .entry))) (now (list .entry)) (now (list .exit)) ⌝ }
 {
     match store.kept(record, list) {

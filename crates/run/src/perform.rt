@@ -11,7 +11,12 @@ use lease::registry::Registry;
 use store::store::Store;
 
 // Performs one call on a store and a registry, with a list for what Held and Kept write. It never fails, and allocates nothing.
-pub fn perform<K: Kind, R: Registry>(store: &mut Store<K>, registry: &mut R, call: Call<K::Edit>, list: &mut [u32]) -> Outcome<K::Row>
+pub fn perform<K: Kind, R: Registry>(
+    store: &mut Store<K>,
+    registry: &mut R,
+    call: Call<K::Edit>,
+    list: &mut [u32],
+) -> Outcome<K::Row>
     ensures { λ o. ⌜ Performed (step (K·Kind .ops) (R·Registry .capacity) (view (now (store .entry))) (R·Registry .leases (now (registry .entry))) (length (now (list .entry))) call) o (view (now (store .exit))) (R·Registry .leases (now (registry .exit))) (now (list .entry)) (now (list .exit)) ⌝ }
 {
     match call {

@@ -17,7 +17,10 @@ impl<E: Copy, R: Copy> Turn<E, R> {
     pub fn of(call: Call<E>) -> Turn<E, R>
         ensures { λ t. ⌜ t ≡ record { call = call; outcome = Outcome.Closed } ⌝ }
     {
-        Turn { call, outcome: Outcome::Closed }
+        Turn {
+            call,
+            outcome: Outcome::Closed,
+        }
     }
 }
 

@@ -114,10 +114,11 @@ module _ {Row : Type 0} (w i n : ℕ) (rs : List (Entry Row)) (x : Entry Row) (o
   pub turn-yes : (v : ℕ) → x .holder ≡ Some v → v ≡ w → n < length out → (take (n + 1) (set out n i) ++ rows-mine w (i + 1) (drop (i + 1) rs) ≡ rows-mine w 0 rs) × (drop (n + 1) (set out n i) ≡ drop (n + 1) out₀)
   turn-yes v a q l =
       let t = rows-mine w (i + 1) (drop (i + 1) rs) in
-      let s : n < n + 1 = omega arith in
-      ( ap (λ z. z ++ t) (take-more-set out n i l) ∙ append-assoc (take n out) (i ∷ []) t
-        ∙ ap (λ z. take n out ++ z) (sym (row-at w i rs x h e ∙ row-yes w i v (x .holder) t a q)) ∙ inv
-      , drop-set-lt (n + 1) out n i s ∙ sym (drop-drop 1 n out) ∙ ap (drop 1) rest ∙ drop-drop 1 n out₀ )
+      let s : n < n + 1 = omega arith in (
+        ap (λ z. z ++ t) (take-more-set out n i l) ∙ append-assoc (take n out) (i ∷ []) t
+            ∙ ap (λ z. take n out ++ z) (sym (row-at w i rs x h e ∙ row-yes w i v (x .holder) t a q)) ∙ inv,
+        drop-set-lt (n + 1) out n i s ∙ sym (drop-drop 1 n out) ∙ ap (drop 1) rest ∙ drop-drop 1 n out₀,
+      )
 
   pub turn-no : (v : ℕ) → x .holder ≡ Some v → (v ≡ w → ⊥) → take n out ++ rows-mine w (i + 1) (drop (i + 1) rs) ≡ rows-mine w 0 rs
   turn-no v a q = ap (λ z. take n out ++ z) (sym (row-at w i rs x h e ∙ row-no w i v (x .holder) (rows-mine w (i + 1) (drop (i + 1) rs)) a q)) ∙ inv

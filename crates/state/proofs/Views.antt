@@ -176,7 +176,7 @@ module _ {Row Edit C : Type 0} (k : Ops Row Edit C) (os : ℕ → ℕ) where
     pub swept-view : viewed rs cs′ ≡ change-at (pruned k os) (viewed rs cs) i
     swept-view =
         let q : stored x (swept k os (x .row) (x .holder) (getD cs i [])) ≡ pruned k os (stored (getD rs i x) (getD cs i [])) =
-              pruned-one x (getD cs i []) ∙ ap (λ z. pruned k os (stored z (getD cs i []))) e in
+        pruned-one x (getD cs i []) ∙ ap (λ z. pruned k os (stored z (getD cs i []))) e in
         ap (λ z. viewed z cs′) (sym same-rows) ∙ ap (viewed (set rs i x)) p
         ∙ viewed-set (pruned k os) rs cs i x x (swept k os (x .row) (x .holder) (getD cs i [])) m h q
 
@@ -197,10 +197,13 @@ module _ {K Row Edit C : Type 0} (k : Ops Row Edit C) (os : ℕ → ℕ) (s₀ s
         let old = viewed (vec-items (s₀ .records)) (chains (s₀ .table)) in
         let rows : length old ≡ length (vec-items (s₀ .records)) = viewed-rows (vec-items (s₀ .records)) (chains (s₀ .table)) (s₀ .sound) in
         let same : length (vec-items (s .records)) ≡ length (vec-items (s₀ .records)) = ap (λ z. length (vec-items z)) (v .1) in
-        let lt : i < length old = omega (arith, rows, same, h) in
-        ( v .0, v .1, r ∙ v .2
-        , swept-view k os (vec-items (s .records)) (chains (s .table)) (chains t) i x (s .sound) h e p
-          ∙ ap (λ z. change-at f z i) (v .3) ∙ map-more f old i lt ∙ ap (λ n. map-first f n old) (sym (add-one i)) )
+        let lt : i < length old = omega (arith, rows, same, h) in (
+          v .0,
+          v .1,
+          r ∙ v .2,
+          swept-view k os (vec-items (s .records)) (chains (s .table)) (chains t) i x (s .sound) h e p
+              ∙ ap (λ z. change-at f z i) (v .3) ∙ map-more f old i lt ∙ ap (λ n. map-first f n old) (sym (add-one i)),
+        )
 
 module _ {K Row Edit C : Type 0} (k : Ops Row Edit C) (os : ℕ → ℕ) (s₀ s : State K Row Edit C) where
   pub sweep-end : (n : ℕ) → length (vec-items (s₀ .records)) ≤ n → SweptTo k os s₀ (s .clock) (s .records) (s .table) n → view s ≡ all-pruned k os (view s₀)
@@ -242,7 +245,7 @@ module _ {Row Edit C : Type 0} (k : Ops Row Edit C) (w : ℕ) (e : Edit) where
   newest-of x = record { time = w; change = k .before (x .row) e }
 
   edited-under : (r : Row) (l : ℕ) (o : Option ℕ) (c : List (Version C)) → by-other-of w o ≡ false → backed o c ≡ true →
-    stored (edited-entry (record { row = r; last = l; holder = o })) (stacked k o (newest-of (record { row = r; last = l; holder = o })) c)
+      stored (edited-entry (record { row = r; last = l; holder = o })) (stacked k o (newest-of (record { row = r; last = l; holder = o })) c)
       ≡ change-stored k w e (stored (record { row = r; last = l; holder = o }) c)
   edited-under r l None c a b = refl
   edited-under r l (Some v) [] a b = absurd (false≢true b)
@@ -273,7 +276,7 @@ module _ {K Row Edit C : Type 0} (k : Ops Row Edit C) (w : ℕ) (e : Edit) (s : 
     put-view =
         let c = getD (chains (s .table)) i [] in
         let one : stored (record { row = p .0; last = x .last; holder = Some w }) (stacked k (x .holder) (record { time = w; change = p .1 }) c) ≡ change-stored k w e (stored (getD (vec-items (s .records)) i x) c) =
-              ap (λ (z : Row × C). stored (record { row = z .0; last = x .last; holder = Some w }) (stacked k (x .holder) (record { time = w; change = z .1 }) c)) ep
-              ∙ edited-one k w e x c mine there ∙ ap (λ z. change-stored k w e (stored z c)) ex in
+        ap (λ (z : Row × C). stored (record { row = z .0; last = x .last; holder = Some w }) (stacked k (x .holder) (record { time = w; change = z .1 }) c)) ep
+        ∙ edited-one k w e x c mine there ∙ ap (λ z. change-stored k w e (stored z c)) ex in
         ap (viewed (set (vec-items (s .records)) i (record { row = p .0; last = x .last; holder = Some w }))) q
         ∙ viewed-set (change-stored k w e) (vec-items (s .records)) (chains (s .table)) i (record { row = p .0; last = x .last; holder = Some w }) x (stacked k (x .holder) (record { time = w; change = p .1 }) c) (s .sound) h one

@@ -8,16 +8,21 @@ ghost use Rattle.version_table.specs.Chains.{chains, capacity};
 ghost use Rattle.history.specs.Model.{changed, begun, refused-own};
 ghost use Rattle.state.specs.Matched.{Room, stacked};
 ghost use Rattle.state.specs.View.{view, Owned};
-use chain::version::Version;
 use crate::entry::Entry;
 use crate::state::State;
+use chain::version::Version;
 use history::fault::StoreCause;
 use history::fault::StoreFault;
 use kind::Kind;
 use version_table::table::VersionTable;
 
 // Puts a change in front of the chain r, or joins it with the holder's.
-fn stack<K: Kind>(table: &mut VersionTable<K::Change>, r: usize, holder: Option<u32>, newest: Version<K::Change>)
+fn stack<K: Kind>(
+    table: &mut VersionTable<K::Change>,
+    r: usize,
+    holder: Option<u32>,
+    newest: Version<K::Change>,
+)
     requires within { ⌜ r < length (chains (now table)) ⌝ }
     requires room { ⌜ Room holder (getD (chains (now table)) r []) (sumBy length (chains (now table))) (capacity (now table)) ⌝ }
     ensures room { λ _. ⌜ capacity (now (table .exit)) ≡ capacity (now (table .entry)) ⌝ }
@@ -30,7 +35,13 @@ fn stack<K: Kind>(table: &mut VersionTable<K::Change>, r: usize, holder: Option<
         Some(_) => {
             if let Some(own) = table.front(r) {
                 let change = K::join(newest.change, own.change);
-                let _kept = table.replace(r, Version { time: newest.time, change });
+                let _kept = table.replace(
+                    r,
+                    Version {
+                        time: newest.time,
+                        change,
+                    },
+                );
             }
         }
     }
@@ -54,17 +65,27 @@ impl<K: Kind> State<K> {
         let free = match entry.holder {
             Some(v) => {
                 if v != w {
-                    return Err(StoreFault { cause: StoreCause::HeldByOther, place: i as u64 });
+                    return Err(StoreFault {
+                        cause: StoreCause::HeldByOther,
+                        place: i as u64,
+                    });
                 }
                 false
             }
             None => true,
         };
-        if w < entry.last {
-            return Err(StoreFault { cause: StoreCause::RowNewer, place: i as u64 });
+        let last = entry.last;
+        if w < last {
+            return Err(StoreFault {
+                cause: StoreCause::RowNewer,
+                place: i as u64,
+            });
         }
         if free && self.table.is_full() {
-            return Err(StoreFault { cause: StoreCause::VersionsUsed, place: i as u64 });
+            return Err(StoreFault {
+                cause: StoreCause::VersionsUsed,
+                place: i as u64,
+            });
         }
         Ok(())
     }
@@ -77,7 +98,16 @@ impl<K: Kind> State<K> {
     {
         let entry = self.records[i];
         let (row, change) = K::edit(entry.row, edit);
-        stack::<K>(&mut self.table, i, entry.holder, Version { time: w, change });
-        self.records[i] = Entry { row, last: entry.last, holder: Some(w) };
+        stack::<K>(
+            &mut self.table,
+            i,
+            entry.holder,
+            Version { time: w, change },
+        );
+        self.records[i] = Entry {
+            row,
+            last: entry.last,
+            holder: Some(w),
+        };
     }
 }

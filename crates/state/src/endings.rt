@@ -7,9 +7,9 @@ ghost use Rattle.history.specs.Model.{every, finish-stored, free-stored, finish
 ghost use Rattle.state.specs.Matched.{stamped, taken-back};
 ghost use Rattle.state.specs.Steps.{one-changed};
 ghost use Rattle.state.specs.View.{view};
-use chain::version::Version;
 use crate::entry::Entry;
 use crate::state::State;
+use chain::version::Version;
 use kind::Kind;
 use version_table::table::VersionTable;
 
@@ -20,7 +20,13 @@ fn stamp<C: Copy>(table: &mut VersionTable<C>, r: usize, t: u32)
     ensures stamped { λ _. ⌜ chains (now (table .exit)) ≡ set (chains (now (table .entry))) r (stamped t (getD (chains (now (table .entry))) r [])) ⌝ }
 {
     if let Some(own) = table.front(r) {
-        let _kept = table.replace(r, Version { time: t, change: own.change });
+        let _kept = table.replace(
+            r,
+            Version {
+                time: t,
+                change: own.change,
+            },
+        );
     }
 }
 
@@ -47,7 +53,11 @@ impl<K: Kind> State<K> {
         if let Some(v) = entry.holder {
             if v == w {
                 stamp(&mut self.table, i, t);
-                self.records[i] = Entry { row: entry.row, last: t, holder: None };
+                self.records[i] = Entry {
+                    row: entry.row,
+                    last: t,
+                    holder: None,
+                };
             }
         }
     }
@@ -61,7 +71,11 @@ impl<K: Kind> State<K> {
         if let Some(v) = entry.holder {
             if v == w {
                 let row = take_back::<K>(&mut self.table, i, entry.row);
-                self.records[i] = Entry { row, last: entry.last, holder: None };
+                self.records[i] = Entry {
+                    row,
+                    last: entry.last,
+                    holder: None,
+                };
             }
         }
     }

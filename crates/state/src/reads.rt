@@ -23,7 +23,10 @@ impl<K: Kind> State<K> {
         ensures { λ r. ⌜ Placed (view (now (self .entry))) «record» r ⌝ }
     {
         if record >= self.records.len() as u64 {
-            return Err(StoreFault { cause: StoreCause::NoRecord, place: record });
+            return Err(StoreFault {
+                cause: StoreCause::NoRecord,
+                place: record,
+            });
         }
         Ok(record as usize)
     }

@@ -10,7 +10,10 @@ pub(crate) fn ask<R: Registry>(registry: &R, t: u32) -> Result<(), StoreFault>
     ensures { λ r. ⌜ LeaseOpen (R·Registry .leases (now (registry .entry))) t r ⌝ }
 {
     if registry.count_at(t) == 0 {
-        let fault = RegistryFault { cause: RegistryCause::NoneOpen, place: t };
+        let fault = RegistryFault {
+            cause: RegistryCause::NoneOpen,
+            place: t,
+        };
         return Err(StoreFault::from(fault));
     }
     Ok(())

@@ -20,14 +20,21 @@ impl<K: Kind> Store<K> {
         let now = self.state.clock();
         if n > 0 && now == u32::MAX {
             ask(registry, w)?;
-            return Err(StoreFault { cause: StoreCause::ClockLimit, place: now as u64 });
+            return Err(StoreFault {
+                cause: StoreCause::ClockLimit,
+                place: now as u64,
+            });
         }
         registry.remove(w)?;
         Ok(())
     }
 
     // Finishes a writer's changes, prunes every chain, and answers the clock and how many records were finished. Refused, it gives the writer back.
-    pub fn commit<R: Registry>(&mut self, registry: &mut R, writer: Writer) -> Result<(u32, usize), (StoreFault, Writer)>
+    pub fn commit<R: Registry>(
+        &mut self,
+        registry: &mut R,
+        writer: Writer,
+    ) -> Result<(u32, usize), (StoreFault, Writer)>
         ensures { λ r. ⌜ Commits (K·Kind .ops) view (R·Registry .leases) writer (now (self .entry)) (now (registry .entry)) r (now (self .exit)) (now (registry .exit)) ⌝ }
     {
         let w = writer.number();

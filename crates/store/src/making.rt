@@ -18,15 +18,28 @@ impl Sizes {
         ensures { λ r. ⌜ Sized records versions start r ⌝ }
     {
         if records == 0 || records > 4096 {
-            return Err(StoreFault { cause: StoreCause::TableSize, place: records });
+            return Err(StoreFault {
+                cause: StoreCause::TableSize,
+                place: records,
+            });
         }
         if versions == 0 || versions > 16384 {
-            return Err(StoreFault { cause: StoreCause::TableSize, place: versions });
+            return Err(StoreFault {
+                cause: StoreCause::TableSize,
+                place: versions,
+            });
         }
         if start > 4294967295 {
-            return Err(StoreFault { cause: StoreCause::StartHigh, place: start });
+            return Err(StoreFault {
+                cause: StoreCause::StartHigh,
+                place: start,
+            });
         }
-        Ok(Sizes { records: records as usize, versions: versions as usize, start: start as u32 })
+        Ok(Sizes {
+            records: records as usize,
+            versions: versions as usize,
+            start: start as u32,
+        })
     }
 }
 
@@ -43,14 +56,19 @@ impl<K: Kind> Fresh<K> {
         ensures { λ r. ⌜ made r (λ f. (fresh-records f ≡ sizes .records) × (fresh-versions f ≡ sizes .versions) × (f .start ≡ sizes .start)) ⌝ }
     {
         let tables = Tables::make(heap, sizes.records, sizes.versions)?;
-        Ok(Fresh { tables, start: sizes.start })
+        Ok(Fresh {
+            tables,
+            start: sizes.start,
+        })
     }
 
     // The new store: clock at the start, no record held, each row blank and finished at the start.
     pub fn store(self) -> Store<K>
         ensures { λ s. ⌜ view s ≡ new-model (K·Kind .ops) (fresh-records self) (fresh-versions self) (self .start) ⌝ }
     {
-        Store { state: self.tables.start(self.start) }
+        Store {
+            state: self.tables.start(self.start),
+        }
     }
 }
 

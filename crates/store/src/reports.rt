@@ -20,7 +20,13 @@ impl<K: Kind> Store<K> {
     }
 
     // Puts the row that a report reads into the given place.
-    pub fn read<R: Registry>(&self, registry: &R, lease: &Lease, record: u64, row: &mut K::Row) -> Result<(), StoreFault>
+    pub fn read<R: Registry>(
+        &self,
+        registry: &R,
+        lease: &Lease,
+        record: u64,
+        row: &mut K::Row,
+    ) -> Result<(), StoreFault>
         ensures { λ r. ⌜ Reads (K·Kind .ops) (view (now (self .entry))) (R·Registry .leases (now (registry .entry))) (now (lease .entry) .time) «record» (now (row .entry)) r (now (row .exit)) ⌝ }
     {
         let i = self.state.place_of(record)?;

@@ -17,7 +17,10 @@ impl<K: Kind> Store<K> {
     {
         let now = self.state.clock();
         if now == u32::MAX {
-            return Err(StoreFault { cause: StoreCause::ClockLimit, place: now as u64 });
+            return Err(StoreFault {
+                cause: StoreCause::ClockLimit,
+                place: now as u64,
+            });
         }
         registry.add(now + 1)?;
         self.state.tick();
@@ -25,7 +28,13 @@ impl<K: Kind> Store<K> {
     }
 
     // Puts the row that a writer sees into the given place.
-    pub fn look<R: Registry>(&self, registry: &R, writer: &Writer, record: u64, row: &mut K::Row) -> Result<(), StoreFault>
+    pub fn look<R: Registry>(
+        &self,
+        registry: &R,
+        writer: &Writer,
+        record: u64,
+        row: &mut K::Row,
+    ) -> Result<(), StoreFault>
         ensures { λ r. ⌜ Looks (K·Kind .ops) (view (now (self .entry))) (R·Registry .leases (now (registry .entry))) (now (writer .entry) .number) «record» (now (row .entry)) r (now (row .exit)) ⌝ }
     {
         let i = self.state.place_of(record)?;
@@ -36,7 +45,13 @@ impl<K: Kind> Store<K> {
     }
 
     // Edits a record for a writer, which then holds it.
-    pub fn change<R: Registry>(&mut self, registry: &R, writer: &Writer, record: u64, edit: K::Edit) -> Result<(), StoreFault>
+    pub fn change<R: Registry>(
+        &mut self,
+        registry: &R,
+        writer: &Writer,
+        record: u64,
+        edit: K::Edit,
+    ) -> Result<(), StoreFault>
         ensures { λ r. ⌜ Changes (K·Kind .ops) view (R·Registry .leases (now (registry .entry))) (now (writer .entry) .number) «record» edit (now (self .entry)) r (now (self .exit)) ⌝ }
     {
         let i = self.state.place_of(record)?;

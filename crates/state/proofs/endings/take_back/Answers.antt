@@ -13,4 +13,5 @@ returns-in-None g c =
     record {
       room = e .room;
       taken = e .popped .0 ∙ sym (ap (set cs (c .args .r)) (ap (drop 1) (e .popped .1) ∙ sym (e .popped .1)) ∙ set-getD cs (c .args .r) []);
-      row = sym (ap (taken-back (g .K·Kind .ops) (c .args .row)) (e .popped .1)) }
+      row = sym (ap (taken-back (g .K·Kind .ops) (c .args .row)) (e .popped .1));
+    }

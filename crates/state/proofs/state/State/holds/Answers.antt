@@ -16,10 +16,11 @@ loop-i-again g c =
     let h : i < length rs = omega (arith, c .args .self .now .records .ok .0, c .loop-i-test .taken, c .len-i-end .ensures) in
     let n = count-next w rs i x h (c .index-entry .ensures) in
     let now : (c .match-entry .n ≡ c .loop-i .n + mine w (x .holder)) × (c .match-entry .n ≤ c .loop-i .n + 1) =
-          elim (c .match-entry .came) [
-            in-Some·then-v-w u ↦ (omega (arith, u .n-is, mine-yes w (u .in-Some .v) (x .holder) (u .in-Some .is) (u .if-v-w .taken)), omega (arith, u .n-is))
-          | in-Some·else-v-w u ↦ (omega (arith, u .n-is, mine-no w (u .in-Some .v) (x .holder) (u .in-Some .is) (u .if-v-w .left)), omega (arith, u .n-is))
-          | in-rest u ↦ (omega (arith, u .n-is, mine-none w (x .holder) (u .in-rest .is)), omega (arith, u .n-is)) ] in
+    elim (c .match-entry .came) [
+      | in-Some·then-v-w u ↦ (omega (arith, u .n-is, mine-yes w (u .in-Some .v) (x .holder) (u .in-Some .is) (u .if-v-w .taken)), omega (arith, u .n-is))
+      | in-Some·else-v-w u ↦ (omega (arith, u .n-is, mine-no w (u .in-Some .v) (x .holder) (u .in-Some .is) (u .if-v-w .left)), omega (arith, u .n-is))
+      | in-rest u ↦ (omega (arith, u .n-is, mine-none w (x .holder) (u .in-rest .is)), omega (arith, u .n-is))
+    ] in
     (omega (arith, now .1, c .loop-i .inv .0), omega (arith, now .0, n, c .loop-i .inv .1))
 
 pub returns : need.returns

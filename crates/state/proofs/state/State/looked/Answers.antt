@@ -37,7 +37,8 @@ returns g c =
     let L = getD (chains (s .table)) i [] in
     let y = view-at s i (new-stored k 0) x (c .pre) (c .index-entry .ensures) in
     let n : held-by w (hold-of (x .holder) L) ≡ false =
-          elim (c .match-entry .came) [
-            in-Some·else-v-w u ↦ not-by w (u .in-Some .v) (x .holder) L (u .in-Some .is) (u .if-v-w .left)
-          | in-rest u ↦ not-by-none w (x .holder) L (u .in-rest .is) ] in
+    elim (c .match-entry .came) [
+      | in-Some·else-v-w u ↦ not-by w (u .in-Some .v) (x .holder) L (u .in-Some .is) (u .if-v-w .left)
+      | in-rest u ↦ not-by-none w (x .holder) L (u .in-rest .is)
+    ] in
     c .reading .ensures ∙ ap (λ z. reading k z w) y ∙ sym (ap (λ z. looks k z w) y ∙ ap (λ z. cond z (x .row) (reading k (stored x L) w)) n)

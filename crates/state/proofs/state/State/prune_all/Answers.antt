@@ -49,12 +49,13 @@ loop-i-again g c =
     let h : i < length (vec-items (s .records)) = omega (arith, same, s₀ .records .ok .0, c .loop-i-test .taken, c .len-i-end .ensures) in
     let S = State (g .K .Denot) (g .K·Row .Denot) (g .K·Edit .Denot) (g .K·Change .Denot) in
     elim (c .match-entry .came) [
-      in-None w ↦
-        let p = w .prune-chain .ensures .pruned ∙ ap (λ o. set (chains (s .table)) i (swept k os (x .row) o (getD (chains (s .table)) i []))) (sym (w .in-None .is)) in
-        subst (λ (z : S). SweptTo k os s₀ (z .clock) (z .records) (z .table) (i + 1)) (sym (w .self-is)) (sweep-step k os s₀ s i x (w .prune-chain .last .table) h (c .index-entry .ensures) p (w .prune-chain .ensures .room) (c .loop-i .inv))
-    | in-Some w ↦
-        let p = w .prune-behind .ensures .pruned ∙ ap (λ o. set (chains (s .table)) i (swept k os (x .row) o (getD (chains (s .table)) i []))) (sym (w .in-Some .is)) in
-        subst (λ (z : S). SweptTo k os s₀ (z .clock) (z .records) (z .table) (i + 1)) (sym (w .self-is)) (sweep-step k os s₀ s i x (w .prune-behind .last .table) h (c .index-entry .ensures) p (w .prune-behind .ensures .room) (c .loop-i .inv)) ]
+      | in-None w ↦
+          let p = w .prune-chain .ensures .pruned ∙ ap (λ o. set (chains (s .table)) i (swept k os (x .row) o (getD (chains (s .table)) i []))) (sym (w .in-None .is)) in
+          subst (λ (z : S). SweptTo k os s₀ (z .clock) (z .records) (z .table) (i + 1)) (sym (w .self-is)) (sweep-step k os s₀ s i x (w .prune-chain .last .table) h (c .index-entry .ensures) p (w .prune-chain .ensures .room) (c .loop-i .inv))
+      | in-Some w ↦
+          let p = w .prune-behind .ensures .pruned ∙ ap (λ o. set (chains (s .table)) i (swept k os (x .row) o (getD (chains (s .table)) i []))) (sym (w .in-Some .is)) in
+          subst (λ (z : S). SweptTo k os s₀ (z .clock) (z .records) (z .table) (i + 1)) (sym (w .self-is)) (sweep-step k os s₀ s i x (w .prune-behind .last .table) h (c .index-entry .ensures) p (w .prune-behind .ensures .room) (c .loop-i .inv))
+    ]
 
 pub returns : need.returns
 returns g c =

@@ -30,7 +30,8 @@ returns-after-front g c =
     let L = getD (chains (s .table)) (c .args .i) [] in
     let v = ap (λ z. reading k z t) (view-at s (c .args .i) (new-stored k 0) x (c .pre) (c .index-entry .ensures)) in
     let h : reading k (stored x L) t ≡ reads k (c .match-front .reached) (drop 1 L) t =
-          elim (c .match-front .came) [
-            in-Some-front w ↦ read-held k x L t (c .in-Some .field-0) (w .in-Some-front .own) (c .in-Some .is) (w .in-Some-front .ensures tt) ∙ ap (λ q. reads k q (drop 1 L) t) (sym (w .reached-is ∙ w .undo-reached .ensures))
-          | in-rest w ↦ read-bare k x L t (c .in-Some .field-0) (c .in-Some .is) (w .in-rest .ensures tt) ∙ ap (λ q. reads k q (drop 1 L) t) (sym (w .reached-is)) ] in
+    elim (c .match-front .came) [
+      | in-Some-front w ↦ read-held k x L t (c .in-Some .field-0) (w .in-Some-front .own) (c .in-Some .is) (w .in-Some-front .ensures tt) ∙ ap (λ q. reads k q (drop 1 L) t) (sym (w .reached-is ∙ w .undo-reached .ensures))
+      | in-rest w ↦ read-bare k x L t (c .in-Some .field-0) (c .in-Some .is) (w .in-rest .ensures tt) ∙ ap (λ q. reads k q (drop 1 L) t) (sym (w .reached-is))
+    ] in
     c .read-past-first .ensures ∙ sym (v ∙ h)

@@ -62,22 +62,23 @@ loop-i-again g c =
     let cn = count-next w rs i x h (c .index-entry .ensures) in
     let T : ℕ → List ℕ → Type 0 = λ z o. (take z o ++ rows-mine w (i + 1) (drop (i + 1) rs) ≡ rows-mine w 0 rs) × (drop z o ≡ drop z (c .args .out .now)) in
     elim (c .match-entry .came) [
-      in-Some·then-v-w u ↦
-        let y = mine-yes w (u .in-Some .v) (x .holder) (u .in-Some .is) (u .if-v-w .taken) in
-        let l : n < length out = omega (arith, inv .2, cn, y, view-counts w s, c .pre, c .loop-i .kept .out) in
-        let t = turn-yes w i n rs x (c .args .out .now) out h (c .index-entry .ensures) (inv .0) (inv .1) (u .in-Some .v) (u .in-Some .is) (u .if-v-w .taken) l in
-        let r = subst (λ z. T z (c .match-entry .out)) (sym (u .n-is)) (subst (λ o. T (n + 1) o) (sym (u .out-is)) t) in
-        (r .0, r .1, omega (arith, u .n-is, y, cn, inv .2))
-    | in-Some·else-v-w u ↦
-        let y = mine-no w (u .in-Some .v) (x .holder) (u .in-Some .is) (u .if-v-w .left) in
-        let t = turn-no w i n rs x (c .args .out .now) out h (c .index-entry .ensures) (inv .0) (inv .1) (u .in-Some .v) (u .in-Some .is) (u .if-v-w .left) in
-        let r = subst (λ z. T z (c .match-entry .out)) (sym (u .n-is)) (subst (λ o. T n o) (sym (u .out-is)) (t, inv .1)) in
-        (r .0, r .1, omega (arith, u .n-is, y, cn, inv .2))
-    | in-rest u ↦
-        let y = mine-none w (x .holder) (u .in-rest .is) in
-        let t = turn-none w i n rs x (c .args .out .now) out h (c .index-entry .ensures) (inv .0) (inv .1) (u .in-rest .is) in
-        let r = subst (λ z. T z (c .match-entry .out)) (sym (u .n-is)) (subst (λ o. T n o) (sym (u .out-is)) (t, inv .1)) in
-        (r .0, r .1, omega (arith, u .n-is, y, cn, inv .2)) ]
+      | in-Some·then-v-w u ↦
+          let y = mine-yes w (u .in-Some .v) (x .holder) (u .in-Some .is) (u .if-v-w .taken) in
+          let l : n < length out = omega (arith, inv .2, cn, y, view-counts w s, c .pre, c .loop-i .kept .out) in
+          let t = turn-yes w i n rs x (c .args .out .now) out h (c .index-entry .ensures) (inv .0) (inv .1) (u .in-Some .v) (u .in-Some .is) (u .if-v-w .taken) l in
+          let r = subst (λ z. T z (c .match-entry .out)) (sym (u .n-is)) (subst (λ o. T (n + 1) o) (sym (u .out-is)) t) in
+          (r .0, r .1, omega (arith, u .n-is, y, cn, inv .2))
+      | in-Some·else-v-w u ↦
+          let y = mine-no w (u .in-Some .v) (x .holder) (u .in-Some .is) (u .if-v-w .left) in
+          let t = turn-no w i n rs x (c .args .out .now) out h (c .index-entry .ensures) (inv .0) (inv .1) (u .in-Some .v) (u .in-Some .is) (u .if-v-w .left) in
+          let r = subst (λ z. T z (c .match-entry .out)) (sym (u .n-is)) (subst (λ o. T n o) (sym (u .out-is)) (t, inv .1)) in
+          (r .0, r .1, omega (arith, u .n-is, y, cn, inv .2))
+      | in-rest u ↦
+          let y = mine-none w (x .holder) (u .in-rest .is) in
+          let t = turn-none w i n rs x (c .args .out .now) out h (c .index-entry .ensures) (inv .0) (inv .1) (u .in-rest .is) in
+          let r = subst (λ z. T z (c .match-entry .out)) (sym (u .n-is)) (subst (λ o. T n o) (sym (u .out-is)) (t, inv .1)) in
+          (r .0, r .1, omega (arith, u .n-is, y, cn, inv .2))
+    ]
 
 pub returns : need.returns
 returns g c =

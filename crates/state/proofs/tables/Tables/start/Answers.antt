@@ -30,9 +30,10 @@ ghost-result g c =
     let v : Entry (g .K·Row .Denot) = record { row = g .K·Kind .ops .blank; last = c .args .start; holder = None } in
     let done : c .loop-i .i ≡ n = omega (arith, c .args .self .records .ok .0, c .loop-i-test .left, c .len-i-end .ensures) in
     let rs = blank-end v xs (vec-items (c .loop-i .records)) (c .loop-i .i) (c .loop-i .inv) done in
-    let cs = all-unused (chains (c .args .self .table)) n (c .args .self .unused) (c .args .self .paired) in
-    ( ap (λ z. matched z (chains (c .args .self .table))) rs ∙ ap (matched (replicate n v)) cs ∙ fresh-sound (g .K·Change .Denot) (g .K·Kind .ops .blank) (c .args .start) n
-    , (ap (λ z. leb (length z) 4096) rs ∙ ap (λ z. leb z 4096) (length-replicate n v) ∙ c .args .self .few, tt) )
+    let cs = all-unused (chains (c .args .self .table)) n (c .args .self .unused) (c .args .self .paired) in (
+      ap (λ z. matched z (chains (c .args .self .table))) rs ∙ ap (matched (replicate n v)) cs ∙ fresh-sound (g .K·Change .Denot) (g .K·Kind .ops .blank) (c .args .start) n,
+      (ap (λ z. leb (length z) 4096) rs ∙ ap (λ z. leb z 4096) (length-replicate n v) ∙ c .args .self .few, tt),
+    )
 
 pub returns : need.returns
 unfolding view

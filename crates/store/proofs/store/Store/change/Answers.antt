@@ -32,10 +32,11 @@ returns-in-Break-ask g c =
     let w = c .args .writer .now .number in
     let u = c .number-w .ensures in
     let own = refused-own (g .K·Kind .ops) m w (c .args .record) in
-    rw (p .1, p .2)
-      ( such m (c .args .record) (refused-lease ls w own) (c .in-Continue-i .ensures tt .0)
-        ∙ not-open ls w own (ap (λ n. count n ls) (sym u) ∙ e .0) ∙ ap (λ n. Some (no-lease n)) (sym u) ∙ ap (λ (f : StoreFault). Some f) (sym (e .1))
-      , refl )
+    rw (p .1, p .2) (
+      such m (c .args .record) (refused-lease ls w own) (c .in-Continue-i .ensures tt .0)
+          ∙ not-open ls w own (ap (λ n. count n ls) (sym u) ∙ e .0) ∙ ap (λ n. Some (no-lease n)) (sym u) ∙ ap (λ (f : StoreFault). Some f) (sym (e .1)),
+      refl,
+    )
 
 pub may-change-requires : need.may-change-requires
 unfolding Placed
@@ -53,10 +54,11 @@ returns-in-Break-may-change g c =
     let u = c .number-w .ensures in
     let own = refused-own k m w (c .args .record) in
     let o : 0 < count w ls = subst (λ n. 0 < count n ls) u (c .in-Continue-ask .ensures tt) in
-    rw (p .1, p .2)
-      ( such m (c .args .record) (refused-lease ls w own) (e .0) ∙ is-open ls w own o
-        ∙ ap (λ i. refused-own k m w i) (sym (e .1)) ∙ ap (λ n. refused-own k m n (c .in-Continue-i .i)) (sym u) ∙ c .in-Break-may-change .ensures tt
-      , refl )
+    rw (p .1, p .2) (
+      such m (c .args .record) (refused-lease ls w own) (e .0) ∙ is-open ls w own o
+          ∙ ap (λ i. refused-own k m w i) (sym (e .1)) ∙ ap (λ n. refused-own k m n (c .in-Continue-i .i)) (sym u) ∙ c .in-Break-may-change .ensures tt,
+      refl,
+    )
 
 pub put-requires : need.put-requires
 unfolding Placed Owned
@@ -72,7 +74,8 @@ returns g c =
     let w = c .args .writer .now .number in
     let u = c .number-w .ensures in
     let own = refused-own k m w (c .args .record) in
-    let o : 0 < count w ls = subst (λ n. 0 < count n ls) u (c .in-Continue-ask .ensures tt) in
-    ( such m (c .args .record) (refused-lease ls w own) (e .0) ∙ is-open ls w own o
-      ∙ ap (λ i. refused-own k m w i) (sym (e .1)) ∙ ap (λ n. refused-own k m n (c .in-Continue-i .i)) (sym u) ∙ c .in-Continue-may-change .ensures tt
-    , c .put .ensures ∙ ap (λ i. changed k m (c .number-w .result) i (c .args .edit)) (e .1) ∙ ap (λ n. changed k m n (c .args .record) (c .args .edit)) u )
+    let o : 0 < count w ls = subst (λ n. 0 < count n ls) u (c .in-Continue-ask .ensures tt) in (
+      such m (c .args .record) (refused-lease ls w own) (e .0) ∙ is-open ls w own o
+          ∙ ap (λ i. refused-own k m w i) (sym (e .1)) ∙ ap (λ n. refused-own k m n (c .in-Continue-i .i)) (sym u) ∙ c .in-Continue-may-change .ensures tt,
+      c .put .ensures ∙ ap (λ i. changed k m (c .number-w .result) i (c .args .edit)) (e .1) ∙ ap (λ n. changed k m n (c .args .record) (c .args .edit)) u,
+    )

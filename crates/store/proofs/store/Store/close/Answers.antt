@@ -18,7 +18,7 @@ returns-in-Break-remove g c =
     let t = c .args .lease .time in
     let u = c .write-down .ensures in
     rw (p .1, p .2)
-      (not-open ls t None (ap (λ n. count n ls) (sym u) ∙ e .0) ∙ ap (λ n. Some (raised (none-open n))) (sym u) ∙ ap (λ f. Some (raised f)) (sym (e .1)), refl, e .2)
+    (not-open ls t None (ap (λ n. count n ls) (sym u) ∙ e .0) ∙ ap (λ n. Some (raised (none-open n))) (sym u) ∙ ap (λ f. Some (raised f)) (sym (e .1)), refl, e .2)
 
 pub returns : need.returns
 unfolding Closes

@@ -39,9 +39,10 @@ returns g c =
     let G = c .end-lease .last .registry in
     let n = c .holds-n .ensures ∙ ap (λ z. held-number z m) u in
     let fin = c .finish-held .ensures ∙ ap (λ z. finished k z (c .number-w .result) m) n ∙ ap (λ z. finished k (held-number (c .args .writer .number) m) z m) u in
-    let all = c .prune-all .ensures ∙ ap (all-pruned k (opens (g .R·Registry .leases G))) fin in
-    ( ap (λ z. refused-commit m ls z) (sym u) ∙ e .0
-    , e .1 ∙ ap (λ z. delete z ls) u
-    , all
-    , c .clock .ensures ∙ ap (λ (z : Model (g .K·Row .Denot) (g .K·Change .Denot)). z .clock) all
-    , n )
+    let all = c .prune-all .ensures ∙ ap (all-pruned k (opens (g .R·Registry .leases G))) fin in (
+      ap (λ z. refused-commit m ls z) (sym u) ∙ e .0,
+      e .1 ∙ ap (λ z. delete z ls) u,
+      all,
+      c .clock .ensures ∙ ap (λ (z : Model (g .K·Row .Denot) (g .K·Change .Denot)). z .clock) all,
+      n,
+    )

@@ -30,10 +30,11 @@ returns-then-now g c =
     let w = c .args .w in
     let u = c .clock-now .ensures in
     let ls = g .R·Registry .leases (c .args .registry .now) in
-    let b = ltb 0 (held-number w m) && eqb (m .clock) limit in
-    ( is-open ls w (or-else b (clock-limit (m .clock)) None) (c .in-Continue-ask .ensures tt)
-      ∙ comes b (clock-limit (m .clock)) None (at-limit m (c .args .n) w (c .pre) (c .if-n-gt0 .taken) (sym u ∙ c .if-now .taken)) ∙ ap (λ t. Some (clock-limit t)) (sym u)
-    , refl )
+    let b = ltb 0 (held-number w m) && eqb (m .clock) limit in (
+      is-open ls w (or-else b (clock-limit (m .clock)) None) (c .in-Continue-ask .ensures tt)
+          ∙ comes b (clock-limit (m .clock)) None (at-limit m (c .args .n) w (c .pre) (c .if-n-gt0 .taken) (sym u ∙ c .if-now .taken)) ∙ ap (λ t. Some (clock-limit t)) (sym u),
+      refl,
+    )
 
 pub returns-in-Break-remove : need.returns-in-Break-remove
 unfolding Ends
@@ -54,7 +55,8 @@ returns g c =
     let ls = g .R·Registry .leases (c .args .registry .now) in
     let b = ltb 0 (held-number w m) && eqb (m .clock) limit in
     let nb : b ≡ false =
-          elim (c .else-n-gt0 .came) [
-            else-n-gt0·by·then-n-gt0·else-now u ↦ below-limit m (c .args .n) w (c .pre) (λ q. u .if-now .left (c .clock-now .ensures ∙ q))
-          | else-n-gt0·by·else-n-gt0 u ↦ none-held m (c .args .n) w (c .pre) (u .if-n-gt0 .left) ] in
+    elim (c .else-n-gt0 .came) [
+      | else-n-gt0·by·then-n-gt0·else-now u ↦ below-limit m (c .args .n) w (c .pre) (λ q. u .if-now .left (c .clock-now .ensures ∙ q))
+      | else-n-gt0·by·else-n-gt0 u ↦ none-held m (c .args .n) w (c .pre) (u .if-n-gt0 .left)
+    ] in
     (is-open ls w (or-else b (clock-limit (m .clock)) None) (e .0) ∙ passes b (clock-limit (m .clock)) None nb, e .1)

@@ -29,8 +29,9 @@ returns g c =
     let u = c .number-w .ensures in
     let n = c .holds-needed .ensures ∙ ap (λ z. held-number z m) u in
     let v = held-number (c .args .writer .now .number) m in
-    let given = length (c .args .out .now) in
-    ( passes (ltb given v) (list-short v) None (le-ltb given v (omega (arith, n, c .if-out-needed .left)))
-    , c .write-held .ensures .number ∙ ap (λ z. held-number z m) u
-    , c .write-held .ensures .front ∙ ap (λ z. held-from z 0 (owners (m .records))) u
-    , c .write-held .ensures .rest )
+    let given = length (c .args .out .now) in (
+      passes (ltb given v) (list-short v) None (le-ltb given v (omega (arith, n, c .if-out-needed .left))),
+      c .write-held .ensures .number ∙ ap (λ z. held-number z m) u,
+      c .write-held .ensures .front ∙ ap (λ z. held-from z 0 (owners (m .records))) u,
+      c .write-held .ensures .rest,
+    )

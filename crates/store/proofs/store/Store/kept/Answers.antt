@@ -36,10 +36,11 @@ returns-then-out-needed g c =
     let e = c .in-Continue-i .ensures tt in
     let n = c .versions-needed .ensures ∙ ap (λ z. length (record-at k m z .chain)) (e .1) in
     let v = length (record-at k m (c .args .record) .chain) in
-    let given = length (c .args .out .now) in
-    ( such m (c .args .record) (or-else (ltb given v) (list-short v) None) (e .0)
-      ∙ comes (ltb given v) (list-short v) None (lt-ltb given v (omega (arith, n, c .if-out-needed .taken))) ∙ ap (λ z. Some (list-short z)) (sym n)
-    , refl )
+    let given = length (c .args .out .now) in (
+      such m (c .args .record) (or-else (ltb given v) (list-short v) None) (e .0)
+          ∙ comes (ltb given v) (list-short v) None (lt-ltb given v (omega (arith, n, c .if-out-needed .taken))) ∙ ap (λ z. Some (list-short z)) (sym n),
+      refl,
+    )
 
 pub write-times-requires : need.write-times-requires
 unfolding Placed
@@ -55,8 +56,9 @@ returns g c =
     let n = c .versions-needed .ensures ∙ ap (λ z. length (record-at k m z .chain)) (e .1) in
     let v = length (record-at k m (c .args .record) .chain) in
     let given = length (c .args .out .now) in
-    let w = c .write-times .ensures in
-    ( such m (c .args .record) (or-else (ltb given v) (list-short v) None) (e .0) ∙ passes (ltb given v) (list-short v) None (le-ltb given v (omega (arith, n, c .if-out-needed .left)))
-    , w .0 ∙ ap (λ z. length (record-at k m z .chain)) (e .1)
-    , w .1 ∙ ap (λ z. times (record-at k m z .chain)) (e .1)
-    , w .2 )
+    let w = c .write-times .ensures in (
+      such m (c .args .record) (or-else (ltb given v) (list-short v) None) (e .0) ∙ passes (ltb given v) (list-short v) None (le-ltb given v (omega (arith, n, c .if-out-needed .left))),
+      w .0 ∙ ap (λ z. length (record-at k m z .chain)) (e .1),
+      w .1 ∙ ap (λ z. times (record-at k m z .chain)) (e .1),
+      w .2,
+    )

@@ -28,10 +28,11 @@ returns-in-Break-ask g c =
     let e = c .in-Break-ask .ensures tt in
     let t = c .args .writer .now .number in
     let u = c .number-w .ensures in
-    rw (p .1, p .2)
-      ( such (view (c .args .self .now)) (c .args .record) (refused-lease ls t None) (c .in-Continue-i .ensures tt .0)
-        ∙ not-open ls t None (ap (λ n. count n ls) (sym u) ∙ e .0) ∙ ap (λ n. Some (no-lease n)) (sym u) ∙ ap (λ (f : StoreFault). Some f) (sym (e .1))
-      , refl )
+    rw (p .1, p .2) (
+      such (view (c .args .self .now)) (c .args .record) (refused-lease ls t None) (c .in-Continue-i .ensures tt .0)
+          ∙ not-open ls t None (ap (λ n. count n ls) (sym u) ∙ e .0) ∙ ap (λ n. Some (no-lease n)) (sym u) ∙ ap (λ (f : StoreFault). Some f) (sym (e .1)),
+      refl,
+    )
 
 pub looked-requires : need.looked-requires
 unfolding Placed
@@ -46,6 +47,7 @@ returns g c =
     let e = c .in-Continue-i .ensures tt in
     let t = c .args .writer .now .number in
     let u = c .number-w .ensures in
-    let o : 0 < count t ls = subst (λ n. 0 < count n ls) u (c .in-Continue-ask .ensures tt) in
-    ( such m (c .args .record) (refused-lease ls t None) (e .0) ∙ is-open ls t None o
-    , c .looked .ensures ∙ ap (λ i. looks k (record-at k m i) (c .number-w .result)) (e .1) ∙ ap (λ n. looks k (record-at k m (c .args .record)) n) u )
+    let o : 0 < count t ls = subst (λ n. 0 < count n ls) u (c .in-Continue-ask .ensures tt) in (
+      such m (c .args .record) (refused-lease ls t None) (e .0) ∙ is-open ls t None o,
+      c .looked .ensures ∙ ap (λ i. looks k (record-at k m i) (c .number-w .result)) (e .1) ∙ ap (λ n. looks k (record-at k m (c .args .record)) n) u,
+    )

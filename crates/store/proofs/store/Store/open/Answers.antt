@@ -28,7 +28,8 @@ returns g c =
     let e = c .in-Continue-add .ensures tt in
     let u = c .clock-t .ensures in
     let cap = g .R·Registry .capacity in
-    let ls = g .R·Registry .leases (c .args .registry .now) in
-    ( passes (eqb (length ls) cap) (leases-used cap) None (ne-eqb (length ls) cap (λ q. omega (arith, q, e .0)))
-    , subst (λ t. At t (c .take-up .result)) u (c .take-up .ensures)
-    , e .1 ∙ ap (λ t. insert t ls) u )
+    let ls = g .R·Registry .leases (c .args .registry .now) in (
+      passes (eqb (length ls) cap) (leases-used cap) None (ne-eqb (length ls) cap (λ q. omega (arith, q, e .0))),
+      subst (λ t. At t (c .take-up .result)) u (c .take-up .ensures),
+      e .1 ∙ ap (λ t. insert t ls) u,
+    )
