@@ -15,7 +15,8 @@ use Rattle.chain.specs.declared.version.Version.{Version}
 use Rattle.state.specs.declared.entry.Entry.{Entry}
 use Rattle.state.specs.Matched.{backed, matched}
 use Rattle.history.specs.History.{free, held-by, who}
-use Rattle.state.specs.View.{stored, viewed, behind, hold-of, view}
+use Rattle.state.specs.Stored.{stored, viewed, behind, hold-of}
+use Rattle.state.specs.View.{view}
 use Rattle.std.specs.Of.Vec.{vec-items}
 use Rattle.std.specs.shelf.Lists.{sumBy}
 use Rattle.std.proofs.shelf.Sums.{sumBy-cons}

@@ -20,7 +20,8 @@ use Rattle.state.specs.declared.entry.Entry.{Entry}
 use Rattle.state.specs.declared.state.State.{State}
 use Rattle.state.specs.Matched.{backed, Room}
 use Rattle.history.specs.Model.{Stored, Model, or-else, by-other, is-free, in-use, record-at, refused-own, new-stored}
-use Rattle.state.specs.View.{view, stored, hold-of}
+use Rattle.state.specs.Stored.{stored, hold-of}
+use Rattle.state.specs.View.{view}
 use Rattle.state.proofs.Views.{by-other-of, free-of, other-is, free-is, backed-at, in-records, view-at, view-uses}
 use Rattle.history.proofs.Refusals.{comes, passes, none-left}
 

@@ -29,7 +29,8 @@ use Rattle.state.specs.Matched.{backed, matched, stacked}
 use Rattle.state.specs.Steps.{map-first, one-changed, first-changed}
 use Rattle.history.specs.History.{Hold, free, held, at-or, change-at}
 use Rattle.history.specs.Model.{Stored, Model, reading, pruned, all-pruned, change-stored, changed, finished-under, in-use, by-other, is-free}
-use Rattle.state.specs.View.{hold-of, behind, stored, viewed, view}
+use Rattle.state.specs.Stored.{hold-of, behind, stored, viewed}
+use Rattle.state.specs.View.{view}
 use Rattle.history.specs.Law.{is-held}
 
 and-both : (a b : Bool) → (a && b) ≡ true → (a ≡ true) × (b ≡ true)

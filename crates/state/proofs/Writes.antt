@@ -22,7 +22,8 @@ use Rattle.state.specs.Matched.{backed, matched, stamped, taken-back}
 use Rattle.state.specs.Steps.{map-first, one-changed, first-changed}
 use Rattle.history.specs.History.{Hold, free, held, at-or, change-at, held-by, who, count-held}
 use Rattle.history.specs.Model.{Stored, Model, held-number, owners, finish-stored, free-stored, finish-under, free-under, every}
-use Rattle.state.specs.View.{hold-of, behind, stored, viewed, view}
+use Rattle.state.specs.Stored.{hold-of, behind, stored, viewed}
+use Rattle.state.specs.View.{view}
 use Rattle.state.proofs.Views.{matched-set, viewed-set, backed-at, view-at, in-records, map-more, map-all}
 
 module _ {K Row Edit C : Type 0} (f : Stored Row C → Stored Row C) (s : State K Row Edit C) (i : ℕ) (x : Entry Row) where

@@ -1,3 +1,4 @@
 pub mod Matched
+pub mod Stored
 pub mod View
 pub mod Steps

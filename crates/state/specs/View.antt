@@ -1,43 +1,22 @@
 -- What a state means, and what its checks answer.
---     stored r vs     a record of the table with its list: a held record's list has the holder's change first, and behind it the chain
 --     view s          the model that the state s is
 --     table-records t, table-versions t    how many records and versions empty tables are for
 --     Placed, Owned   what the checks of a record's number and of the right to change it answer
 use mathlib.Core.Path.{_≡_}
-use mathlib.Core.List.{List, [], _∷_}
 use Prim.Native.Nat.{ℕ, _<_, _≤_}
-use lib.ListN.{length, drop}
+use lib.ListN.{length}
 use Rattle.std.specs.declared.option.Option.{Option}
 use Rattle.std.specs.declared.option.Option.the-variants.{Some, None}
 use Rattle.std.specs.declared.result.Result.{Result}
 use Rattle.std.specs.declared.result.Result.the-variants.{Ok, Err}
 use Rattle.std.specs.Of.Vec.{vec-items}
 use Rattle.kind.specs.Kinds.{Ops}
-use Rattle.chain.specs.declared.version.Version.{Version}
 use Rattle.version_table.specs.Chains.{chains, capacity}
 use Rattle.history.specs.declared.fault.StoreFault.{StoreFault}
-use Rattle.history.specs.History.{Hold, free, held}
-use Rattle.history.specs.Model.{Stored, Model, no-record, refused-own}
-use Rattle.state.specs.declared.entry.Entry.{Entry}
+use Rattle.history.specs.Model.{Model, no-record, refused-own}
+use Rattle.state.specs.Stored.{viewed}
 use Rattle.state.specs.declared.state.State.{State}
 use Rattle.state.specs.declared.tables.Tables.{Tables}
-
-abbrev pub hold-of : {C : Type 0} → Option ℕ → List (Version C) → Hold C
-hold-of None vs = free
-hold-of (Some w) [] = free
-hold-of (Some w) (v ∷ vs) = held w (v .change)
-
-abbrev pub behind : {C : Type 0} → Option ℕ → List (Version C) → List (Version C)
-behind None vs = vs
-behind (Some w) vs = drop 1 vs
-
-abbrev pub stored : {Row C : Type 0} → Entry Row → List (Version C) → Stored Row C
-stored r vs = record { place = r .row; holder = hold-of (r .holder) vs; last = r .last; chain = behind (r .holder) vs }
-
-abbrev pub viewed : {Row C : Type 0} → List (Entry Row) → List (List (Version C)) → List (Stored Row C)
-viewed [] cs = []
-viewed (r ∷ rs) [] = []
-viewed (r ∷ rs) (c ∷ cs) = stored r c ∷ viewed rs cs
 
 -- the four types are the kind, its rows, edits and changes
 unfoldable pub view : {K Row Edit C : Type 0} → State K Row Edit C → Model Row C

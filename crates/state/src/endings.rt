@@ -44,9 +44,10 @@ fn take_back<K: Kind>(table: &mut VersionTable<K::Change>, r: usize, row: K::Row
 }
 
 impl<K: Kind> State<K> {
-    // Finishes the writer w's change of the record i at the time t, if there is one.
+    // Finishes the writer w's change of the record i at the time t, which is the clock, if there is one.
     fn finish(&mut self, i: usize, w: u32, t: u32)
-        requires { ⌜ i < length (view (now self) .records) ⌝ }
+        requires within { ⌜ i < length (view (now self) .records) ⌝ }
+        requires latest { ⌜ t ≡ view (now self) .clock ⌝ }
         ensures { λ _. ⌜ view (now (self .exit)) ≡ one-changed (finish-stored (K·Kind .ops) w t) i (view (now (self .entry))) ⌝ }
     {
         let entry = self.records[i];
@@ -80,8 +81,9 @@ impl<K: Kind> State<K> {
         }
     }
 
-    // Finishes every change of the writer w at the time t.
+    // Finishes every change of the writer w at the time t, which is the clock.
     fn finish_all(&mut self, w: u32, t: u32)
+        requires { ⌜ t ≡ view (now self) .clock ⌝ }
         ensures { λ _. ⌜ view (now (self .exit)) ≡ every (K·Kind .ops) (finish-stored (K·Kind .ops) w t) (view (now (self .entry))) ⌝ }
     {
         for i in 0..self.records.len() {

@@ -6,36 +6,37 @@ ghost use lib.ListN.{length, getD, drop};
 ghost use Rattle.std.specs.Of.Vec.{vec-items};
 ghost use Rattle.links.specs.Meaning.{from, Onto};
 ghost use Rattle.version_table.specs.Chains.{chains, pick, Listed};
-ghost use Rattle.chain.specs.Versions.{reads};
+ghost use Rattle.chain.specs.Versions.{Falling, reads};
 use crate::table::VersionTable;
 use kind::Kind;
 
-// Leads a row back to the time t by the versions from a slot on.
+// Leads a row back to the time t by the versions from a slot on, whose times fall: it stops at the first that is not above t.
 fn read_from<K: Kind>(table: &VersionTable<K::Change>, start: Option<u16>, t: u32, row: &mut K::Row)
     requires { ⌜ Onto (now table .links) start ⌝ }
-    ensures { λ _. ⌜ now (row .exit) ≡ reads (K·Kind .ops) (now (row .entry)) (pick (vec-items (now (table .entry) .versions)) (from (now (table .entry) .links) start)) t ⌝ }
+    ensures { λ _. ⌜ (Falling (pick (vec-items (now (table .entry) .versions)) (from (now (table .entry) .links) start)) → now (row .exit) ≡ reads (K·Kind .ops) (now (row .entry)) (pick (vec-items (now (table .entry) .versions)) (from (now (table .entry) .links) start)) t) ⌝ }
 {
     let mut at = start;
     while let Some(s) = at {
         let next = table.links.after(s);
         let version = table.versions[s as usize];
-        if t < version.time {
-            *row = K::undo(*row, version.change);
+        if version.time <= t {
+            return;
         }
+        *row = K::undo(*row, version.change);
         at = next;
     }
 }
 
-// Leads a row back to the time t by the chain r.
+// Leads a row back to the time t by the chain r, whose times fall.
 pub fn read_back<K: Kind>(table: &VersionTable<K::Change>, r: usize, t: u32, row: &mut K::Row)
-    ensures { λ _. ⌜ now (row .exit) ≡ reads (K·Kind .ops) (now (row .entry)) (getD (chains (now (table .entry))) r []) t ⌝ }
+    ensures { λ _. ⌜ (Falling (getD (chains (now (table .entry))) r []) → now (row .exit) ≡ reads (K·Kind .ops) (now (row .entry)) (getD (chains (now (table .entry))) r []) t) ⌝ }
 {
     read_from::<K>(table, table.links.first(r), t, row);
 }
 
-// Leads a row back to the time t by the chain r without its first version.
+// Leads a row back to the time t by the chain r without its first version; the times behind that fall.
 pub fn read_past_first<K: Kind>(table: &VersionTable<K::Change>, r: usize, t: u32, row: &mut K::Row)
-    ensures { λ _. ⌜ now (row .exit) ≡ reads (K·Kind .ops) (now (row .entry)) (drop 1 (getD (chains (now (table .entry))) r [])) t ⌝ }
+    ensures { λ _. ⌜ (Falling (drop 1 (getD (chains (now (table .entry))) r [])) → now (row .exit) ≡ reads (K·Kind .ops) (now (row .entry)) (drop 1 (getD (chains (now (table .entry))) r [])) t) ⌝ }
 {
     if let Some(s) = table.links.first(r) {
         let next = table.links.after(s);

@@ -7,9 +7,11 @@ use lib.ListN.{length-set, length, getD, drop}
 use Rattle.std.specs.declared.option.Option.the-variants.{Some, None}
 use Rattle.version_table.specs.Chains.{chains, capacity}
 use Rattle.state.specs.Matched.{stamped, taken-back}
-use Rattle.state.specs.View.{view, stored}
+use Rattle.state.specs.Stored.{stored, viewed, all-fall}
+use Rattle.state.specs.View.{view}
 use Rattle.history.specs.Model.{finish-stored, free-stored, new-stored}
 use Rattle.state.proofs.Views.{in-records, in-table}
+use Rattle.state.proofs.Falls.{all-changed, free-keeps}
 use Rattle.state.proofs.Writes.{there, write-sound, write-view, unwritten, finish-one, finish-other, free-one, free-other, not-by, not-by-none}
 use Rattle.state.proofs.state.State.free.Needs as need
 
@@ -30,7 +32,11 @@ ghost-self g c =
     let w = c .args .w in
     let x = c .index-entry .result .now in
     let L = getD (chains (s .table)) i [] in
-    (write-sound (free-stored k w) s i x (record { row = c .take-back-row .result; last = x .last; holder = None }) (drop 1 L) (c .take-back-row .last .table) (c .pre) (c .index-entry .ensures) (c .take-back-row .ensures .taken) refl, (ap (λ n. leb n 4096) (length-set (vec-items (s .records)) i _) ∙ s .few, tt))
+    let b = there (free-stored k w) s i x (c .pre) (c .index-entry .ensures) in
+    let v = write-view (free-stored k w) s i x (record { row = c .take-back-row .result; last = x .last; holder = None }) (drop 1 L) (c .take-back-row .last .table) (c .pre) (c .index-entry .ensures) (c .take-back-row .ensures .taken) (ap (λ q. stored (record { row = q; last = x .last; holder = None }) (drop 1 L)) (c .take-back-row .ensures .row) ∙ free-one k w x (c .in-Some .v) L (c .in-Some .is) (c .if-v-w .taken) b) in (
+      write-sound (free-stored k w) s i x (record { row = c .take-back-row .result; last = x .last; holder = None }) (drop 1 L) (c .take-back-row .last .table) (c .pre) (c .index-entry .ensures) (c .take-back-row .ensures .taken) refl,
+      (ap (all-fall (s .clock)) v ∙ all-changed (s .clock) (free-stored k w) (free-keeps k (s .clock) w) (viewed (vec-items (s .records)) (chains (s .table))) i (s .falling), (ap (λ n. leb n 4096) (length-set (vec-items (s .records)) i _) ∙ s .few, tt)),
+    )
 
 pub returns-then-v-w : need.returns-then-v-w
 unfolding view

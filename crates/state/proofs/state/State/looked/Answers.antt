@@ -4,7 +4,8 @@ use mathlib.Core.List.{[]}
 use native.Mathlib.Omega.{arith}
 use lib.ListN.{getD}
 use Rattle.version_table.specs.Chains.{chains}
-use Rattle.state.specs.View.{view, stored, hold-of}
+use Rattle.state.specs.Stored.{stored, hold-of}
+use Rattle.state.specs.View.{view}
 use Rattle.history.specs.Model.{looks, reading, new-stored, free-stored}
 use Rattle.history.specs.History.{held-by}
 use Rattle.state.proofs.Views.{in-records, view-at}

@@ -8,7 +8,10 @@ use Rattle.std.specs.declared.option.Option.the-variants.{Some, None}
 use Rattle.version_table.specs.Chains.{chains}
 use Rattle.lease.specs.Times.{opens}
 use Rattle.state.specs.declared.state.State.{State}
-use Rattle.state.proofs.Views.{SweptTo, swept, sweep-sound, sweep-step, sweep-end, rows-alike}
+use Rattle.history.specs.Model.{pruned}
+use Rattle.state.specs.Stored.{viewed, all-fall}
+use Rattle.state.proofs.Falls.{all-changed, prune-keeps}
+use Rattle.state.proofs.Views.{SweptTo, swept, swept-view, sweep-sound, sweep-step, sweep-end, rows-alike}
 use Rattle.state.proofs.state.State.prune_all.Given as given
 use Rattle.state.proofs.state.State.prune_all.Needs.{in-None, in-Some}
 use Rattle.state.proofs.state.State.prune_all.Needs as need
@@ -23,7 +26,10 @@ ghost-self g c =
     let same = ap (λ z. length (vec-items z)) (c .loop-i .inv .1) in
     let h : i < length (vec-items (s .records)) = omega (arith, same, c .args .self .now .records .ok .0, c .loop-i-test .taken, c .len-i-end .ensures) in
     let p = c .prune-chain .ensures .pruned ∙ ap (λ o. set (chains (s .table)) i (swept k os (x .row) o (getD (chains (s .table)) i []))) (sym (c .in-None .is)) in
-    (sweep-sound k os s s i x (c .prune-chain .last .table) h (c .index-entry .ensures) p, (s .few, tt))
+    let v = swept-view k os (vec-items (s .records)) (chains (s .table)) (chains (c .prune-chain .last .table)) i x (s .sound) h (c .index-entry .ensures) p in (
+      sweep-sound k os s s i x (c .prune-chain .last .table) h (c .index-entry .ensures) p,
+      (ap (all-fall (s .clock)) v ∙ all-changed (s .clock) (pruned k os) (prune-keeps k os (s .clock)) (viewed (vec-items (s .records)) (chains (s .table))) i (s .falling), (s .few, tt)),
+    )
 
 pub ghost-self-in-Some : need.ghost-self-in-Some
 ghost-self-in-Some g c =
@@ -35,7 +41,10 @@ ghost-self-in-Some g c =
     let same = ap (λ z. length (vec-items z)) (c .loop-i .inv .1) in
     let h : i < length (vec-items (s .records)) = omega (arith, same, c .args .self .now .records .ok .0, c .loop-i-test .taken, c .len-i-end .ensures) in
     let p = c .prune-behind .ensures .pruned ∙ ap (λ o. set (chains (s .table)) i (swept k os (x .row) o (getD (chains (s .table)) i []))) (sym (c .in-Some .is)) in
-    (sweep-sound k os s s i x (c .prune-behind .last .table) h (c .index-entry .ensures) p, (s .few, tt))
+    let v = swept-view k os (vec-items (s .records)) (chains (s .table)) (chains (c .prune-behind .last .table)) i x (s .sound) h (c .index-entry .ensures) p in (
+      sweep-sound k os s s i x (c .prune-behind .last .table) h (c .index-entry .ensures) p,
+      (ap (all-fall (s .clock)) v ∙ all-changed (s .clock) (pruned k os) (prune-keeps k os (s .clock)) (viewed (vec-items (s .records)) (chains (s .table))) i (s .falling), (s .few, tt)),
+    )
 
 pub loop-i-again : need.loop-i-again
 loop-i-again g c =

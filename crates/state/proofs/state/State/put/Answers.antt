@@ -7,6 +7,9 @@ use lib.ListN.{length-set, length, getD}
 use Rattle.std.specs.shelf.Lists.{sumBy}
 use Rattle.version_table.specs.Chains.{chains, capacity}
 use Rattle.state.specs.View.{view}
+use Rattle.history.specs.Model.{change-stored}
+use Rattle.state.specs.Stored.{viewed, all-fall}
+use Rattle.state.proofs.Falls.{all-changed, change-keeps}
 use Rattle.state.proofs.Views.{in-records, in-table, put-sound, put-view}
 use Rattle.state.proofs.Owners.{own-is, own-none, full-up, room-of}
 use Rattle.state.proofs.state.State.put.Needs as need
@@ -35,7 +38,8 @@ ghost-self g c =
     let w = c .args .w in
     let x = c .index-entry .result .now in
     let o = own-none w i (x .holder) (x .last) (full-up k s) (sym (own-is k s i w x (c .pre .within) (c .index-entry .ensures)) ∙ c .pre .owned) in
-    (put-sound k w (c .args .edit) s i x (c .stack .last .table) (c .edit-row .result) (in-records s i (c .pre .within)) (c .index-entry .ensures) (c .edit-row .ensures) (o .0) (c .stack .ensures .stacked), (ap (λ n. leb n 4096) (length-set (vec-items (s .records)) i _) ∙ s .few, tt))
+    let v = put-view k w (c .args .edit) s i x (c .stack .last .table) (c .edit-row .result) (in-records s i (c .pre .within)) (c .index-entry .ensures) (c .edit-row .ensures) (o .0) (c .stack .ensures .stacked) in
+    (put-sound k w (c .args .edit) s i x (c .stack .last .table) (c .edit-row .result) (in-records s i (c .pre .within)) (c .index-entry .ensures) (c .edit-row .ensures) (o .0) (c .stack .ensures .stacked), (ap (all-fall (s .clock)) v ∙ all-changed (s .clock) (change-stored k w (c .args .edit)) (change-keeps k (s .clock) w (c .args .edit)) (viewed (vec-items (s .records)) (chains (s .table))) i (s .falling), (ap (λ n. leb n 4096) (length-set (vec-items (s .records)) i _) ∙ s .few, tt)))
 
 pub returns : need.returns
 unfolding view

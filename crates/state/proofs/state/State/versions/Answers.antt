@@ -8,7 +8,8 @@ use lib.ListN.{length, getD, drop}
 use Rattle.std.specs.declared.option.Option.the-variants.{Some, None}
 use Rattle.version_table.specs.Chains.{chains, Listed}
 use Rattle.chain.specs.declared.version.Version.{Version}
-use Rattle.state.specs.View.{view, stored, Placed}
+use Rattle.state.specs.Stored.{stored}
+use Rattle.state.specs.View.{view, Placed}
 use Rattle.history.specs.Model.{Stored, record-at, new-stored, free-stored, or-else}
 use Rattle.state.proofs.Views.{in-records, view-at}
 use Rattle.state.proofs.Writes.{there}

@@ -10,7 +10,9 @@ use Rattle.std.specs.declared.option.Option.the-variants.{None}
 use Rattle.version_table.specs.Chains.{chains, capacity}
 use Rattle.state.specs.declared.entry.Entry.{Entry}
 use Rattle.state.specs.Matched.{matched}
-use Rattle.state.specs.View.{view, viewed}
+use Rattle.state.specs.Stored.{viewed, all-fall}
+use Rattle.state.proofs.Falls.{new-falls}
+use Rattle.state.specs.View.{view}
 use Rattle.state.proofs.Fresh.{blank-more, blank-end, all-unused, fresh-sound, fresh-view}
 use Rattle.state.proofs.tables.Tables.start.Needs as need
 
@@ -32,7 +34,11 @@ ghost-result g c =
     let rs = blank-end v xs (vec-items (c .loop-i .records)) (c .loop-i .i) (c .loop-i .inv) done in
     let cs = all-unused (chains (c .args .self .table)) n (c .args .self .unused) (c .args .self .paired) in (
       ap (λ z. matched z (chains (c .args .self .table))) rs ∙ ap (matched (replicate n v)) cs ∙ fresh-sound (g .K·Change .Denot) (g .K·Kind .ops .blank) (c .args .start) n,
-      (ap (λ z. leb (length z) 4096) rs ∙ ap (λ z. leb z 4096) (length-replicate n v) ∙ c .args .self .few, tt),
+      (
+        ap (all-fall (c .args .start)) (ap (λ z. viewed z (chains (c .args .self .table))) rs ∙ ap (viewed (replicate n v)) cs ∙ fresh-view (g .K·Change .Denot) (g .K·Kind .ops .blank) (c .args .start) n)
+            ∙ new-falls (g .K·Kind .ops) (c .args .start) (c .args .start) n,
+        (ap (λ z. leb (length z) 4096) rs ∙ ap (λ z. leb z 4096) (length-replicate n v) ∙ c .args .self .few, tt),
+      ),
     )
 
 pub returns : need.returns
