@@ -106,7 +106,6 @@ end-step bs rest a line n e room is none fresh =
     ∙ ap (λ d. d ∷ []) (sym (take-all (n - 0) rest (omega arith)))
     ∙ ap (λ ls. take (n - 0) rest ∷ ls) (sym (none-left bs (a + n) (line + 1) (omega arith) (omega arith)))
 
-
 -- words: up to a space, and up to the end
 words-cut : (p : ℕ) (pre ys : List ℕ) → ((k : ℕ) → k < length pre → getD pre k 0 ≡ 32 → ⊥) → words-from p (pre ++ 32 ∷ ys) ≡ record { text = pre; place = p } ∷ words-from (p + length pre + 1) ys
 words-cut p [] ys none = ap (λ q. record { text = []; place = p } ∷ words-from q ys) (let z : p + 1 ≡ p + 0 + 1 = omega arith in z)
@@ -133,35 +132,36 @@ on-words l a h = grind (arith, tells)
 
 -- the rest of a line as the code cuts it, with its first space at n, or none
 pub word-step : (l cut : List ℕ) (a n : ℕ) → cut ≡ drop a l → a ≤ length l → n ≤ length cut → ((k : ℕ) → k < n → getD cut k 0 ≡ 32 → ⊥) → (n < length cut → getD cut n 0 ≡ 32) →
-  words-left l a ≡ record { text = take (n - 0) cut; place = a } ∷ words-left l (a + n + 1)
+    words-left l a ≡ record { text = take (n - 0) cut; place = a } ∷ words-left l (a + n + 1)
 word-step l cut a n e inside room none found =
     let r : length cut ≡ length l - a = ap length e ∙ length-drop a l in
     let z : n - 0 ≡ n = omega arith in
     let long : length (take n cut) ≡ n = length-take-le n cut room in
     let bare : (k : ℕ) → k < length (take n cut) → getD (take n cut) k 0 ≡ 32 → ⊥ = λ k lt at-k. let lt′ : k < n = omega arith in none k lt′ (sym (getD-take n cut k 0 lt′) ∙ at-k) in
     on-words l a inside ∙ ap (words-from a) (sym e) ∙ ⊎-elim
-      (λ (lt : n < length cut).
-        let s : take n cut ++ 32 ∷ drop (n + 1) cut ≡ cut = ap (λ x. take n cut ++ x ∷ drop (n + 1) cut) (sym (found lt)) ∙ ap (λ x. take n cut ++ x) (sym (drop-more cut n 0 lt)) ∙ take-append-drop n cut in
-        ap (words-from a) (sym s) ∙ words-cut a (take n cut) (drop (n + 1) cut) bare
-        ∙ ap (λ q. record { text = take n cut; place = a } ∷ words-from q (drop (n + 1) cut)) (let y : a + length (take n cut) + 1 ≡ a + n + 1 = omega arith in y)
-        ∙ ap (λ d. record { text = take n cut; place = a } ∷ words-from (a + n + 1) (drop (n + 1) d)) e
-        ∙ ap (λ d. record { text = take n cut; place = a } ∷ words-from (a + n + 1) d) (drop-drop (n + 1) a l ∙ ap (λ q. drop q l) (let y : a + (n + 1) ≡ a + n + 1 = omega arith in y))
-        ∙ ap (λ ws. record { text = take n cut; place = a } ∷ ws) (sym (on-words l (a + n + 1) (omega arith)))
-        ∙ ap (λ q. record { text = take q cut; place = a } ∷ words-left l (a + n + 1)) (sym z))
-      (λ (ge : length cut ≤ n).
-        let all : take n cut ≡ cut = take-all n cut ge in
-        ap (words-from a) (sym all) ∙ words-last a (take n cut) bare
-        ∙ ap (λ ws. record { text = take n cut; place = a } ∷ ws) (sym (past-words l (a + n + 1) (omega arith)))
-        ∙ ap (λ q. record { text = take q cut; place = a } ∷ words-left l (a + n + 1)) (sym z))
-      (cases-lt n (length cut))
+    (λ (lt : n < length cut).
+    let s : take n cut ++ 32 ∷ drop (n + 1) cut ≡ cut = ap (λ x. take n cut ++ x ∷ drop (n + 1) cut) (sym (found lt)) ∙ ap (λ x. take n cut ++ x) (sym (drop-more cut n 0 lt)) ∙ take-append-drop n cut in
+    ap (words-from a) (sym s) ∙ words-cut a (take n cut) (drop (n + 1) cut) bare
+    ∙ ap (λ q. record { text = take n cut; place = a } ∷ words-from q (drop (n + 1) cut)) (let y : a + length (take n cut) + 1 ≡ a + n + 1 = omega arith in y)
+    ∙ ap (λ d. record { text = take n cut; place = a } ∷ words-from (a + n + 1) (drop (n + 1) d)) e
+    ∙ ap (λ d. record { text = take n cut; place = a } ∷ words-from (a + n + 1) d) (drop-drop (n + 1) a l ∙ ap (λ q. drop q l) (let y : a + (n + 1) ≡ a + n + 1 = omega arith in y))
+    ∙ ap (λ ws. record { text = take n cut; place = a } ∷ ws) (sym (on-words l (a + n + 1) (omega arith)))
+    ∙ ap (λ q. record { text = take q cut; place = a } ∷ words-left l (a + n + 1)) (sym z))
+    (λ (ge : length cut ≤ n).
+    let all : take n cut ≡ cut = take-all n cut ge in
+    ap (words-from a) (sym all) ∙ words-last a (take n cut) bare
+    ∙ ap (λ ws. record { text = take n cut; place = a } ∷ ws) (sym (past-words l (a + n + 1) (omega arith)))
+    ∙ ap (λ q. record { text = take q cut; place = a } ∷ words-left l (a + n + 1)) (sym z))
+    (cases-lt n (length cut))
 
 -- the first word stands where the words begin
 first-place : (p : ℕ) (cs : List ℕ) → over (words-from p cs) ≡ Some p
 first-place p [] = refl
 first-place p (c ∷ cs) =
     elim (eqb c 32) as (λ b. over (cond b (record { text = []; place = p } ∷ words-from (p + 1) cs) (grown c p (words-from (p + 1) cs))) ≡ Some p) [
-      true ↦ refl
-    | false ↦ grown-place c p (words-from (p + 1) cs) ]
+      | true ↦ refl
+      | false ↦ grown-place c p (words-from (p + 1) cs)
+    ]
   where
     grown-place : (c p : ℕ) (ws : List Part) → over (grown c p ws) ≡ Some p
     grown-place c p [] = refl
@@ -174,8 +174,9 @@ within-bound : (b p n : ℕ) (o : Option ℕ) → Ok n ≡ within b p o → n �
 within-bound b p n None e = let z : _≡_ {A = ℕ} 0 1 = cc in absurd (omega arith)
 within-bound b p n (Some m) e =
     elim (leb m b) as (λ t. leb m b ≡ t → Ok n ≡ cond t (Ok m) (Err p) → n ≤ b) [
-      true ↦ λ t q. let s : n ≡ m = cc in let l = leb-true m b t in omega arith
-    | false ↦ λ t q. let z : _≡_ {A = ℕ} 0 1 = cc in absurd (omega arith) ] refl e
+      | true ↦ λ t q. let s : n ≡ m = cc in let l = leb-true m b t in omega arith
+      | false ↦ λ t q. let z : _≡_ {A = ℕ} 0 1 = cc in absurd (omega arith)
+    ] refl e
 
 -- an accepted word's number is within its bound
 pub judged-bound : (b n : ℕ) (w : Part) → Ok n ≡ judged b w → n ≤ b

@@ -31,7 +31,7 @@ pub two-off : {l m k : List ℕ} {a b c : ℕ} {p q : Part} (f : Part → Part �
 two-off f o s = let w = o .word in let r = o .left in let e = ap length (o .same) in let w′ = s .word in let r′ = s .left in cc
 
 pub four-off : {l m k j i : List ℕ} {a b c d e : ℕ} {p q r s : Part} (f : Part → Part → Part → Part → Worded) → Off l a p m b → Off m b q k c → Off k c r j d → Off j d s i e →
-  four-taken (length l) f (words-left l a) ≡ Some (record { command = f p q r s; left = words-left i e })
+    four-taken (length l) f (words-left l a) ≡ Some (record { command = f p q r s; left = words-left i e })
 four-off f o s t u =
     let w = o .word in let x = o .left in let y = ap length (o .same) in
     let w′ = s .word in let x′ = s .left in let y′ = ap length (s .same) in
@@ -104,7 +104,7 @@ module _ (l l′ : List ℕ) (a′ : ℕ) (line : l′ ≡ l) (start : a′ ≡ 
   opens-unknown e = ap (λ (q : Part). with-kind (kind-of (letter-of (q .text))) (length l) (rest (words l))) head ∙ ap (λ o. with-kind o (length l) (rest (words l))) (sym e)
 
   pub opens-known : {q r s t : Part} {l₂ l₃ l₄ l₅ : List ℕ} {a₂ a₃ a₄ a₅ : ℕ} (k : KindLetter) → Some k ≡ kind-of (letter-of (p .text)) → Off l₁ a₁ q l₂ a₂ → Off l₂ a₂ r l₃ a₃ → Off l₃ a₃ s l₄ a₄ → Off l₄ a₄ t l₅ a₅ →
-    opening l ≡ ended 1 (sizes-of k q r s t) (words-left l₅ a₅)
+      opening l ≡ ended 1 (sizes-of k q r s t) (words-left l₅ a₅)
   unfolding opening
   opens-known k e o₂ o₃ o₄ o₅ =
       let whole = all in

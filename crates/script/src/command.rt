@@ -5,11 +5,11 @@ ghost use Rattle.script.specs.Kinds.{Terms, top};
 ghost use Rattle.script.specs.Spans.{part};
 ghost use Rattle.script.specs.Parts.{tell, Commanded};
 ghost use Rattle.script.specs.Words.{words-left, judged};
+use crate::fault::ScriptFault;
 use crate::kinds::ScriptKind;
 use crate::words::Word;
 use crate::words::Words;
 use crate::words::judge;
-use crate::fault::ScriptFault;
 use history::call::Call;
 
 // The greatest time, writer's number or fields value.
@@ -19,14 +19,33 @@ const TOP: u64 = 4294967295;
 #[derive(Clone, Copy)]
 pub enum Command<'a> {
     Open,
-    Read { time: Word<'a>, record: Word<'a> },
-    Close { time: Word<'a> },
+    Read {
+        time: Word<'a>,
+        record: Word<'a>,
+    },
+    Close {
+        time: Word<'a>,
+    },
     Begin,
-    Look { writer: Word<'a>, record: Word<'a> },
-    Change { writer: Word<'a>, record: Word<'a>, attribute: Word<'a>, value: Word<'a> },
-    Commit { writer: Word<'a> },
-    Abandon { writer: Word<'a> },
-    Kept { record: Word<'a> },
+    Look {
+        writer: Word<'a>,
+        record: Word<'a>,
+    },
+    Change {
+        writer: Word<'a>,
+        record: Word<'a>,
+        attribute: Word<'a>,
+        value: Word<'a>,
+    },
+    Commit {
+        writer: Word<'a>,
+    },
+    Abandon {
+        writer: Word<'a>,
+    },
+    Kept {
+        record: Word<'a>,
+    },
 }
 
 // The command of a letter, its words taken off; none for an unknown letter.
@@ -56,7 +75,12 @@ pub fn pick<'a>(letter: u8, words: &mut Words<'a>) -> Option<Command<'a>>
             let record = words.next_word();
             let attribute = words.next_word();
             let value = words.next_word();
-            Some(Command::Change { writer, record, attribute, value })
+            Some(Command::Change {
+                writer,
+                record,
+                attribute,
+                value,
+            })
         }
         'm' => {
             let writer = words.next_word();
@@ -102,7 +126,12 @@ pub fn call_of<K: ScriptKind>(command: Command) -> Result<Call<K::Edit>, usize>
             let i = judge(record, u64::MAX)?;
             Ok(Call::Look(w, i))
         }
-        Command::Change { writer, record, attribute, value } => {
+        Command::Change {
+            writer,
+            record,
+            attribute,
+            value,
+        } => {
             let w = judge_time(writer)?;
             let i = judge(record, u64::MAX)?;
             let a = judge(attribute, K::last_attribute())?;

@@ -10,6 +10,7 @@ use crate::words::judge;
 
 // The most records and versions of a script's store.
 const RECORDS: u64 = 64;
+
 const VERSIONS: u64 = 256;
 
 // The kind of a script: fields or tallies.
@@ -57,7 +58,13 @@ fn registry_letter(text: &[u8]) -> Option<RegistryLetter>
 }
 
 // The four words behind the kind, judged from left to right; else the place of the first bad one.
-fn judge_sizes(kind: KindLetter, registry: Word, records: Word, versions: Word, start: Word) -> Result<Opening, usize>
+fn judge_sizes(
+    kind: KindLetter,
+    registry: Word,
+    records: Word,
+    versions: Word,
+    start: Word,
+) -> Result<Opening, usize>
     ensures { λ r. ⌜ r ≡ sizes-of kind (part (registry .entry)) (part (records .entry)) (part (versions .entry)) (part (start .entry)) ⌝ }
 {
     let Some(letter) = registry_letter(registry.text) else {

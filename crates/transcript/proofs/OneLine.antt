@@ -31,10 +31,11 @@ module _ {Row Edit Change : Type 0} (k : Ops Row Edit Change) (t : Terms Edit) (
       record {
         text = w ∙ ap (λ (q : Printed Row Change). b ++ q .text) p;
         model = ap (λ (q : Printed Row Change). q .model) p;
-        leases = ap (λ (q : Printed Row Change). q .leases) p }
+        leases = ap (λ (q : Printed Row Change). q .leases) p;
+      }
 
   pub called-line : (c : Call Edit) (o : Outcome Row) (m′ : Model Row Change) (ls′ list list′ : List ℕ) (w : ℕ) → Ok c ≡ line-call t n l → length list ≡ room → Performed (step k capacity m ls (length list) c) o m′ ls′ list list′ → w ≡ wrote o →
-    b′ ≡ b ++ outcome-line (k .tells) n (take w list′) o → Behind (print-line k t capacity n m ls l) b b′ m′ ls′
+      b′ ≡ b ++ outcome-line (k .tells) n (take w list′) o → Behind (print-line k t capacity n m ls l) b b′ m′ ls′
   unfolding print-line
   called-line c o m′ ls′ list list′ w e size q is text =
       let p : by-call k t capacity n m ls (Ok c) ≡ by-call k t capacity n m ls (line-call t n l) = ap (by-call k t capacity n m ls) e in
@@ -46,7 +47,8 @@ module _ {Row Edit Change : Type 0} (k : Ops Row Edit Change) (t : Terms Edit) (
       record {
         text = text ∙ ap (λ x. b ++ x) (whole ∙ ap (λ s. outcome-line (k .tells) n (s .told .written) (s .told .outcome)) here) ∙ ap (λ (q : Printed Row Change). b ++ q .text) p;
         model = q .model ∙ ap (λ s. s .model) here ∙ ap (λ (q : Printed Row Change). q .model) p;
-        leases = q .leases ∙ ap (λ s. s .leases) here ∙ ap (λ (q : Printed Row Change). q .leases) p }
+        leases = q .leases ∙ ap (λ s. s .leases) here ∙ ap (λ (q : Printed Row Change). q .leases) p;
+      }
 
 -- a reader's next line
 pub line-on : (r r′ : Reader) (l : List ℕ) → lines-left (now (r .bytes)) (r .at) (r .line) ≡ l ∷ lines-left (now (r′ .bytes)) (r′ .at) (r′ .line) → left r ≡ l ∷ left r′
@@ -60,7 +62,7 @@ no-line r h = h
 module _ {Row Edit Change : Type 0} (k : Ops Row Edit Change) (t : Terms Edit) (capacity n : ℕ) (m m′ : Model Row Change) (ls ls′ b b′ whole : List ℕ) where
   -- one line more, behind what was printed before
   pub lines-more : (n′ n″ : ℕ) (l : List ℕ) (now-left then-left : List (List ℕ)) → n′ ≡ n → n″ ≡ n + 1 → now-left ≡ l ∷ then-left → Behind (print-line k t capacity n′ m ls l) b b′ m′ ls′ →
-    b ++ print-lines k t capacity n m ls now-left ≡ whole → b′ ++ print-lines k t capacity n″ m′ ls′ then-left ≡ whole
+      b ++ print-lines k t capacity n m ls now-left ≡ whole → b′ ++ print-lines k t capacity n″ m′ ls′ then-left ≡ whole
   unfolding print-lines
   lines-more n′ n″ l now-left then-left e f at-l p inv =
       let q = print-line k t capacity n m ls l in
@@ -77,7 +79,7 @@ module _ {Row Edit Change : Type 0} (k : Ops Row Edit Change) (t : Terms Edit) (
 
   -- and the end
   pub lines-end : (now-left : List (List ℕ)) (used leases : ℕ) → now-left ≡ [] → used ≡ in-use (m .records) → leases ≡ length ls → b′ ≡ b ++ end-text used leases →
-    b ++ print-lines k t capacity n m ls now-left ≡ whole → b′ ≡ whole
+      b ++ print-lines k t capacity n m ls now-left ≡ whole → b′ ≡ whole
   unfolding print-lines
   lines-end now-left used leases none u o text inv =
       text ∙ ap (λ x. b ++ end-text x leases) u ∙ ap (λ x. b ++ end-text (in-use (m .records)) x) o

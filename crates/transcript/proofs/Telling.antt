@@ -27,8 +27,8 @@ module _ {Row Edit Change : Type 0} (k : Ops Row Edit Change) (t : Terms Edit) (
 
   -- one line in front of lines that are told so
   one-told : (lines : List (List ℕ)) (n : ℕ) → ((m : Model Row Change) (ls : List ℕ) → Told-so (n + 1) m ls lines) → (m : Model Row Change) (ls : List ℕ) (r : Result (Call Edit) ScriptFault) →
-    by-call k t cap n m ls r .text ++ print-lines k t cap (n + 1) (by-call k t cap n m ls r .model) (by-call k t cap n m ls r .leases) lines
-    ≡ (line-text k t n r (outcomes k cap m ls (more-calls k t r (calls k t (n + 1) lines))) ++ told-text k t (n + 1) lines (outcomes-left k t r (outcomes k cap m ls (more-calls k t r (calls k t (n + 1) lines))))) ++ ending m ls (more-calls k t r (calls k t (n + 1) lines))
+      by-call k t cap n m ls r .text ++ print-lines k t cap (n + 1) (by-call k t cap n m ls r .model) (by-call k t cap n m ls r .leases) lines
+      ≡ (line-text k t n r (outcomes k cap m ls (more-calls k t r (calls k t (n + 1) lines))) ++ told-text k t (n + 1) lines (outcomes-left k t r (outcomes k cap m ls (more-calls k t r (calls k t (n + 1) lines))))) ++ ending m ls (more-calls k t r (calls k t (n + 1) lines))
   one-told lines n told m ls (Err f) =
       ap (λ ys. fault-line f ++ ys) (told m ls)
       ∙ sym (append-assoc (fault-line f) (told-text k t (n + 1) lines (outcomes k cap m ls (calls k t (n + 1) lines))) (ending m ls (calls k t (n + 1) lines)))
@@ -55,4 +55,5 @@ module _ {Row Edit Change : Type 0} {k : Ops Row Edit Change} (laws : Laws k) (t
         used = in-use (model-after k capacity m [] cs .records);
         law = model-lawful k laws capacity n v start cs;
         ruled = refl;
-        told = e ∙ printed-told k t capacity lines 2 m [] }
+        told = e ∙ printed-told k t capacity lines 2 m [];
+      }

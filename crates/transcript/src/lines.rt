@@ -27,7 +27,13 @@ use store::store::Store;
 const ROOM: usize = 256;
 
 // Makes the call of one line and prints what came of it, or prints the line's refusal.
-fn run_line<K: ScriptKind, R: Registry>(store: &mut Store<K>, registry: &mut R, line: &[u8], number: usize, out: &mut String) -> fmt::Result
+fn run_line<K: ScriptKind, R: Registry>(
+    store: &mut Store<K>,
+    registry: &mut R,
+    line: &[u8],
+    number: usize,
+    out: &mut String,
+) -> fmt::Result
     ensures { λ r. ⌜ made r (λ _. Behind (print-line (K·Kind .ops) (K·ScriptKind .terms) (R·Registry .capacity) number (view (now (store .entry))) (R·Registry .leases (now (registry .entry))) (now (line .entry))) (string-bytes (now (out .entry))) (string-bytes (now (out .exit))) (view (now (store .exit))) (R·Registry .leases (now (registry .exit)))) ⌝ }
 {
     match read_call::<K>(line, number) {
@@ -42,7 +48,12 @@ fn run_line<K: ScriptKind, R: Registry>(store: &mut Store<K>, registry: &mut R, 
 }
 
 // Runs all lines that a reader has left on a new store, and prints the end.
-pub fn run_lines<K: ScriptKind, R: Registry + Drop>(heap: Global, sizes: Sizes, reader: &mut Reader, out: &mut String) -> Result<(), NoMemory>
+pub fn run_lines<K: ScriptKind, R: Registry + Drop>(
+    heap: Global,
+    sizes: Sizes,
+    reader: &mut Reader,
+    out: &mut String,
+) -> Result<(), NoMemory>
     ensures { λ r. ⌜ made r (λ _. string-bytes (now (out .exit)) ≡ string-bytes (now (out .entry)) ++ print-lines (K·Kind .ops) (K·ScriptKind .terms) (R·Registry .capacity) (now (reader .entry) .line + 1) (new-model (K·Kind .ops) (sizes .records) (sizes .versions) (sizes .start)) [] (left (now (reader .entry)))) ⌝ }
 {
     let mut store = Store::<K>::make(heap, sizes)?;

@@ -81,7 +81,12 @@ fn put_kept(out: &mut String, count: usize, times: &[u32]) -> fmt::Result
 }
 
 // What came of a call at a line; `times` are those that the call wrote.
-pub fn put_outcome<K: ScriptKind>(out: &mut String, outcome: Outcome<K::Row>, times: &[u32], line: usize) -> fmt::Result
+pub fn put_outcome<K: ScriptKind>(
+    out: &mut String,
+    outcome: Outcome<K::Row>,
+    times: &[u32],
+    line: usize,
+) -> fmt::Result
     ensures { λ r. ⌜ made r (λ _. string-bytes (now (out .exit)) ≡ string-bytes (now (out .entry)) ++ outcome-line (K·Kind .ops .tells) line (now (times .entry)) outcome) ⌝ }
 {
     match outcome {
@@ -95,6 +100,9 @@ pub fn put_outcome<K: ScriptKind>(out: &mut String, outcome: Outcome<K::Row>, ti
         Outcome::Held(_) => Ok(()),
         Outcome::Kept(count) => put_kept(out, count, times),
         Outcome::InUse(_) => Ok(()),
-        Outcome::Refused(number, layer, place) => write!(out, "refused {number} {layer} {place} at {line}\n"),
+        Outcome::Refused(number, layer, place) => write!(
+            out,
+            "refused {number} {layer} {place} at {line}\n"
+        ),
     }
 }

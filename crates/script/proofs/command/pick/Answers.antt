@@ -37,26 +37,29 @@ unfolding command-of
 returns-in-r c = record {
   same = c .next-word-record .ensures .same ∙ c .next-word-time .ensures .same;
   taken = ap (λ x. command-of (length (c .args .words .now .line .now)) x (words-left (c .args .words .now .line .now) (c .args .words .now .at))) (sym (c .from .ensures) ∙ c .in-r .is)
-    ∙ two-off w-read (record { same = c .next-word-time .ensures .same; word = c .next-word-time .ensures .word; left = c .next-word-time .ensures .left })
-    (record { same = c .next-word-record .ensures .same; word = c .next-word-record .ensures .word; left = c .next-word-record .ensures .left }) }
+      ∙ two-off w-read (record { same = c .next-word-time .ensures .same; word = c .next-word-time .ensures .word; left = c .next-word-time .ensures .left })
+      (record { same = c .next-word-record .ensures .same; word = c .next-word-record .ensures .word; left = c .next-word-record .ensures .left });
+}
 
 pub returns-in-g : need.returns-in-g
 unfolding command-of
 returns-in-g c = record {
   same = c .next-word-record-in-g .ensures .same ∙ c .next-word-writer .ensures .same;
   taken = ap (λ x. command-of (length (c .args .words .now .line .now)) x (words-left (c .args .words .now .line .now) (c .args .words .now .at))) (sym (c .from .ensures) ∙ c .in-g .is)
-    ∙ two-off w-look (record { same = c .next-word-writer .ensures .same; word = c .next-word-writer .ensures .word; left = c .next-word-writer .ensures .left })
-    (record { same = c .next-word-record-in-g .ensures .same; word = c .next-word-record-in-g .ensures .word; left = c .next-word-record-in-g .ensures .left }) }
+      ∙ two-off w-look (record { same = c .next-word-writer .ensures .same; word = c .next-word-writer .ensures .word; left = c .next-word-writer .ensures .left })
+      (record { same = c .next-word-record-in-g .ensures .same; word = c .next-word-record-in-g .ensures .word; left = c .next-word-record-in-g .ensures .left });
+}
 
 pub returns-in-e : need.returns-in-e
 unfolding command-of
 returns-in-e c = record {
   same = c .next-word-value .ensures .same ∙ c .next-word-attribute .ensures .same ∙ c .next-word-record-in-e .ensures .same ∙ c .next-word-writer-in-e .ensures .same;
   taken = ap (λ x. command-of (length (c .args .words .now .line .now)) x (words-left (c .args .words .now .line .now) (c .args .words .now .at))) (sym (c .from .ensures) ∙ c .in-e .is)
-    ∙ four-off w-change (record { same = c .next-word-writer-in-e .ensures .same; word = c .next-word-writer-in-e .ensures .word; left = c .next-word-writer-in-e .ensures .left })
-    (record { same = c .next-word-record-in-e .ensures .same; word = c .next-word-record-in-e .ensures .word; left = c .next-word-record-in-e .ensures .left })
-    (record { same = c .next-word-attribute .ensures .same; word = c .next-word-attribute .ensures .word; left = c .next-word-attribute .ensures .left })
-    (record { same = c .next-word-value .ensures .same; word = c .next-word-value .ensures .word; left = c .next-word-value .ensures .left }) }
+      ∙ four-off w-change (record { same = c .next-word-writer-in-e .ensures .same; word = c .next-word-writer-in-e .ensures .word; left = c .next-word-writer-in-e .ensures .left })
+      (record { same = c .next-word-record-in-e .ensures .same; word = c .next-word-record-in-e .ensures .word; left = c .next-word-record-in-e .ensures .left })
+      (record { same = c .next-word-attribute .ensures .same; word = c .next-word-attribute .ensures .word; left = c .next-word-attribute .ensures .left })
+      (record { same = c .next-word-value .ensures .same; word = c .next-word-value .ensures .word; left = c .next-word-value .ensures .left });
+}
 
 pub returns-in-rest : need.returns-in-rest
 returns-in-rest c =

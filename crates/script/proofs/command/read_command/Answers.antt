@@ -9,7 +9,8 @@ returns-in-Some c =
     let w = c .next-word-word .ensures in
     record {
       same = c .pick .ensures .same ∙ w .same;
-      taken = subst (λ o. Commanded o (c .pick .result) (words-left (c .pick .last .words .line .now) (c .pick .last .words .at))) (sym (line-known (record { same = w .same; word = w .word; left = w .left }) (c .in-Some .letter) (c .in-Some .ensures tt))) (c .pick .ensures .taken) }
+      taken = subst (λ o. Commanded o (c .pick .result) (words-left (c .pick .last .words .line .now) (c .pick .last .words .at))) (sym (line-known (record { same = w .same; word = w .word; left = w .left }) (c .in-Some .letter) (c .in-Some .ensures tt))) (c .pick .ensures .taken);
+    }
 
 pub returns-in-None : need.returns-in-None
 returns-in-None c =

@@ -25,8 +25,9 @@ returns-then-b-lt48 c =
     let ys = drop (i + 1) xs in
     let e = sym (c .loop-b .inv .1) ∙ at-drop-more digits xs i 0 (c .loop-b-test .taken) in
     number-bad xs (elim (c .then-b-lt48 .came) [
-      then-b-lt48·by·then-b-lt48 w ↦ e ∙ digits-low (getD xs i 0) ys (w .if-b-lt48 .taken)
-    | then-b-lt48·by·else-b-lt48·then-b-gt57 w ↦ e ∙ digits-high (getD xs i 0) ys (w .if-b-gt57 .taken) ])
+      | then-b-lt48·by·then-b-lt48 w ↦ e ∙ digits-low (getD xs i 0) ys (w .if-b-lt48 .taken)
+      | then-b-lt48·by·else-b-lt48·then-b-gt57 w ↦ e ∙ digits-high (getD xs i 0) ys (w .if-b-gt57 .taken)
+    ])
 
 pub returns-then-n-d : need.returns-then-n-d
 returns-then-n-d c =
@@ -40,10 +41,11 @@ pub loop-b-again : need.loop-b-again
 loop-b-again c =
     let xs = c .args .text .now in
     let i = c .loop-b .b-index in
-    let h = c .loop-b-test .taken in
-    (sym (at-drop-more (read-on (c .loop-b .n)) xs i 0 h) ∙ c .loop-b .inv .0,
-     sym (at-drop-more digits xs i 0 h ∙ digits-on (getD xs i 0) (drop (i + 1) xs) (c .if-b-lt48 .left) (c .if-b-gt57 .left)) ∙ c .loop-b .inv .1,
-     omega arith)
+    let h = c .loop-b-test .taken in (
+      sym (at-drop-more (read-on (c .loop-b .n)) xs i 0 h) ∙ c .loop-b .inv .0,
+      sym (at-drop-more digits xs i 0 h ∙ digits-on (getD xs i 0) (drop (i + 1) xs) (c .if-b-lt48 .left) (c .if-b-gt57 .left)) ∙ c .loop-b .inv .1,
+      omega arith,
+    )
 
 pub returns : need.returns
 returns c =

@@ -23,17 +23,20 @@ returns c =
     let n = c .find-n .result in
     let room : a ≤ length bs = c .args .self .now .inside .0 in
     let fresh : length bs ≤ a → k ≡ 0 =
-        elim (c .else-self .came) [ else-self·by·then-self·else-self-gt0 w ↦ λ h. omega (arith, w .if-self-gt0 .left) | else-self·by·else-self w ↦ λ h. absurd (omega (arith, w .if-self .left)) ] in
+    elim (c .else-self .came) [ else-self·by·then-self·else-self-gt0 w ↦ λ h. omega (arith, w .if-self-gt0 .left) | else-self·by·else-self w ↦ λ h. absurd (omega (arith, w .if-self .left)) ] in
     let rest = take (length bs - a) (drop a bs) in
     let is : rest ≡ drop a bs = take-rest bs a in
     let f = c .find-n .ensures in
     let later : Reader → List (List ℕ) = λ s. lines-left (now (s .bytes)) (s .at) (s .line) in
     elim (c .if-n-rest .came) [
-      then-n-rest w ↦ record {
+      | then-n-rest w ↦ record {
         same = ap (λ s. now (s .bytes)) (w .self-is);
         lines = cut-step bs rest a k n is (w .if-n-rest .taken) (f .before) (f .found (w .if-n-rest .taken)) ∙ ap (λ ls. take (n - 0) rest ∷ ls) (sym (ap later (w .self-is)));
-        counted = ap (λ (s : Reader). s .line) (w .self-is) }
-    | else-n-rest w ↦ record {
+        counted = ap (λ (s : Reader). s .line) (w .self-is);
+      }
+      | else-n-rest w ↦ record {
         same = ap (λ s. now (s .bytes)) (w .self-is);
         lines = end-step bs rest a k n is room (omega (arith, w .if-n-rest .left, f .within)) (f .before) fresh ∙ ap (λ ls. take (n - 0) rest ∷ ls) (sym (ap later (w .self-is)));
-        counted = ap (λ (s : Reader). s .line) (w .self-is) } ]
+        counted = ap (λ (s : Reader). s .line) (w .self-is);
+      }
+    ]
