@@ -1,9 +1,10 @@
 -- The model and the history, call by call, and any run of calls.
 --     Sim room m ls fs    the model m, with the leases ls, is tied to the history whose records are fs
 --     step-lawful         one step keeps the tie, and its outcome is what the law says
+--     run-more            a run and one call more at its end
 --     sim-law             a tied model has what the law says of a store in the end
 use mathlib.Core.Path.{_≡_, refl, sym, subst, _∙_, ap}
-use mathlib.Core.List.{List, [], _∷_, map}
+use mathlib.Core.List.{List, [], _∷_, _++_, map}
 use mathlib.Core.Bool.{Bool, true, false, cond, not, _&&_, true≢false, false≢true}
 use mathlib.Core.Logic.{_⊎_, inl, inr}
 use Prim.Native.Nat.{ℕ, zero, suc, _+_, _≤_, _<_}
@@ -380,6 +381,13 @@ module _ {Row Edit Change : Type 0} (k : Ops Row Edit Change) where
               let y = r .met in
               record { met = record { records = y .records; fact = (x .chain, tied-right (opens ls) (m .clock) _ x (tied-at i h), y .fact); sim = y .sim } }
       step-lawful n call-in-use = stays (plain (InUse (in-use (m .records)))) (in-use (m .records), needed-now, refl, refl)
+
+    -- one call more at the end of a run
+    pub run-more : (cap room : ℕ) (cs : List (Asked Edit)) (os : List (Told Row)) (h mid h′ : History Row) (c : Asked Edit) (o : Told Row) → Run k cap room h cs os mid → Answers k mid cap room (c .given) (c .call) o h′ → Run k cap room h (cs ++ (c ∷ [])) (os ++ (o ∷ [])) h′
+    run-more cap room [] [] h mid h′ c o r a = (h′, subst (λ z. Answers k z cap room (c .given) (c .call) o h′) r a, refl)
+    run-more cap room [] (p ∷ os) h mid h′ c o r a = absurd r
+    run-more cap room (d ∷ cs) [] h mid h′ c o r a = absurd r
+    run-more cap room (d ∷ cs) (p ∷ os) h mid h′ c o r a = (r .0, r .1, run-more cap room cs os (r .0) mid h′ c o (r .2) a)
 
     module _ (cap room : ℕ) where
       pub record Ran (m : Model Row Change) (ls : List ℕ) (fs : List (Record Row)) (cs : List (Asked Edit)) : Type 0 where

@@ -23,8 +23,9 @@ impl Links {
             None => None,
             Some(s) => {
                 let i = s as usize;
+                let head = self.heads[r];
                 self.free = self.next[i];
-                self.next[i] = self.heads[r];
+                self.next[i] = head;
                 self.heads[r] = Some(s);
                 self.used += 1;
                 Some(s)

@@ -18,11 +18,11 @@ use Rattle.history.specs.declared.call.Outcome.{Outcome}
 use Rattle.history.specs.declared.call.Outcome.the-variants.{Opened, Shown, Closed, Began, Changed, Committed, Held, Kept}
 use Rattle.history.specs.declared.fault.StoreFault.{StoreFault}
 use Rattle.history.specs.History.{History, Record, new-history}
-use Rattle.history.specs.Law.{Told, Asked, plain, Answers, Run, times}
+use Rattle.history.specs.Law.{Told, Asked, plain, Run, times}
 use Rattle.history.specs.Model.{Model, Step, step, decide, does, or-else, held-number, held-from, owners, list-short, no-record, record-at, reading, looks, all-pruned, begun, changed, committed, refused-open, refused-read, refused-lease, refused-begin, refused-change, refused-commit, refused-held, refused-kept, new-model, Lawful}
 use Rattle.history.proofs.Counts.{held-length}
 use Rattle.history.proofs.Refusals.{none-left}
-use Rattle.history.proofs.Simulation.{Sim, hist, step-lawful, new-sim, sim-law}
+use Rattle.history.proofs.Simulation.{Sim, hist, run-more, step-lawful, new-sim, sim-law}
 use Rattle.run.specs.declared.turn.Turn.{Turn}
 use Rattle.run.specs.Steps.{Performed}
 use Rattle.run.specs.Runs.{wrote, calls-of, used-by, asked-from, told-from}
@@ -62,14 +62,6 @@ module _ {Row Edit Change : Type 0} (k : Ops Row Edit Change) (cap : ℕ) (m : M
       let rest = none-left (leb (length (m .records)) i) (no-record i) (or-else (ltb n (length vs)) (list-short (length vs)) None) e .1 in
       (sym size, omega (arith, size, ltb-false n (length vs) (none-left (ltb n (length vs)) (list-short (length vs)) None rest .0))))
   step-fine call-in-use = (refl, omega arith)
-
--- one call more at the end of a run
-module _ {Row Edit Change : Type 0} (k : Ops Row Edit Change) (cap room : ℕ) where
-  run-more : (cs : List (Asked Edit)) (os : List (Told Row)) (h mid h′ : History Row) (c : Asked Edit) (o : Told Row) → Run k cap room h cs os mid → Answers k mid cap room (c .given) (c .call) o h′ → Run k cap room h (cs ++ (c ∷ [])) (os ++ (o ∷ [])) h′
-  run-more [] [] h mid h′ c o r a = (h′, subst (λ z. Answers k z cap room (c .given) (c .call) o h′) r a, refl)
-  run-more [] (p ∷ os) h mid h′ c o r a = absurd r
-  run-more (d ∷ cs) [] h mid h′ c o r a = absurd r
-  run-more (d ∷ cs) (p ∷ os) h mid h′ c o r a = (r .0, r .1, run-more cs os (r .0) mid h′ c o (r .2) a)
 
 module _ {Edit Row : Type 0} where
   used-more : (ts : List (Turn Edit Row)) (t : Turn Edit Row) → used-by (ts ++ (t ∷ [])) ≡ used-by ts + wrote (t .outcome)
@@ -177,7 +169,7 @@ module _ {Row Edit Change : Type 0} (k : Ops Row Edit Change) (cap v n start : �
         let given : length sub ≡ length l₀ - used-by (take i j) = ap length rest ∙ length-drop u l₀ ∙ ap (λ z. length l₀ - z) (p .used) in
         let more : take (i + 1) (set j i turn) ≡ take i j ++ (turn ∷ []) = take-more-set j i turn h in
         let one = step-lawful k laws cap v m ls (p .records) (p .sim) (length sub) (t .call) in
-        let ran = run-more k cap v (asked-from (length l₀) (take i j)) (p .told) (new-history k start n) (hist k m ls (p .records)) (hist k (st .model) (st .leases) (one .records)) (record { call = t .call; given = length sub }) (st .told) (p .run) (one .fact) in
+        let ran = run-more k laws cap v (asked-from (length l₀) (take i j)) (p .told) (new-history k start n) (hist k m ls (p .records)) (hist k (st .model) (st .leases) (one .records)) (record { call = t .call; given = length sub }) (st .told) (p .run) (one .fact) in
         let asked : asked-from (length l₀) (take (i + 1) (set j i turn)) ≡ asked-from (length l₀) (take i j) ++ (record { call = t .call; given = length sub } ∷ []) =
         ap (asked-from (length l₀)) more ∙ asked-more (length l₀) (take i j) turn ∙ ap (λ z. asked-from (length l₀) (take i j) ++ (record { call = t .call; given = z } ∷ [])) (sym given) in
         record {

@@ -1,7 +1,8 @@
 ghost use mathlib.Core.Path.{_≡_};
 ghost use Prim.Native.Nat.{_≤_};
 ghost use lib.ListN.{length, drop};
-ghost use Rattle.history.specs.Model.{Lawful};
+ghost use Rattle.history.specs.Law.{Law};
+ghost use Rattle.history.specs.Model.{kept-chains, in-use};
 ghost use Rattle.store.specs.Making.{fresh-records, fresh-versions};
 ghost use Rattle.store.specs.View.{view};
 ghost use Rattle.run.specs.Runs.{calls-of, used-by, asked-from, told-from};
@@ -23,9 +24,9 @@ pub fn run<K: Kind, R: Registry>(
 ) -> (Store<K>, R)
     ensures calls { λ _. ⌜ calls-of (now (journal .exit)) ≡ calls-of (now (journal .entry)) ⌝ }
     ensures list { λ _. ⌜ (used-by (now (journal .exit)) ≤ length (now (list .entry))) × (drop (used-by (now (journal .exit))) (now (list .exit)) ≡ drop (used-by (now (journal .exit))) (now (list .entry))) ⌝ }
-    ensures law { λ r. ⌜ Lawful (K·Kind .ops) (R·Registry .capacity) (fresh-records fresh) (fresh-versions fresh) (fresh .start)
+    ensures law { λ r. ⌜ Law (K·Kind .ops) (R·Registry .capacity) (fresh-versions fresh) (fresh-records fresh) (fresh .start)
         (asked-from (length (now (list .entry))) (now (journal .exit))) (told-from (now (list .exit)) (now (journal .exit)))
-        (view (r .0)) (R·Registry .leases (r .1)) ⌝ }
+        (view (r .0) .clock) (R·Registry .leases (r .1)) (kept-chains (view (r .0) .records)) (in-use (view (r .0) .records)) ⌝ }
 {
     let mut store = fresh.store();
     let mut registry = R::empty();

@@ -74,7 +74,8 @@ impl<K: Kind> State<K> {
             }
             None => true,
         };
-        if w < entry.last {
+        let last = entry.last;
+        if w < last {
             return Err(StoreFault {
                 cause: StoreCause::RowNewer,
                 place: i as u64,

@@ -1,3 +1,4 @@
 mod OneLine
 mod Spaces
 mod Telling
+mod Wholes

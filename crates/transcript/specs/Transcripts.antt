@@ -2,6 +2,7 @@
 --     longest              the most bytes of a script
 --     Opened o ls text     the first line asks for o, and ls are the lines behind it
 --     Transcript bs text   the text is what the script bs prints
+--     print-by             the same of the lines behind the first, by the model's steps
 use mathlib.Core.Path.{_≡_}
 use mathlib.Core.List.{List, [], _∷_}
 use mathlib.Core.Bool.{Bool, true, false}
@@ -17,6 +18,7 @@ use Rattle.tallies.specs.Tallies.{tallies-ops}
 use Rattle.sorted_list.specs.Entries.{list-capacity}
 use Rattle.slot_table.specs.Slots.{slot-count}
 use Rattle.history.specs.declared.fault.StoreFault.{StoreFault}
+use Rattle.history.specs.Model.{new-model}
 use Rattle.store.specs.Making.{refused-sizes}
 use Rattle.script.specs.Card.{too-long, from-store}
 use Rattle.script.specs.Kinds.{fields-terms, tallies-terms}
@@ -28,6 +30,7 @@ use Rattle.script.specs.declared.opening.KindLetter.the-variants.{F, T}
 use Rattle.script.specs.declared.opening.RegistryLetter.{RegistryLetter}
 use Rattle.script.specs.declared.opening.RegistryLetter.the-variants.{S, L}
 use Rattle.script.specs.declared.opening.Opening.{Opening}
+use Rattle.transcript.specs.Printing.{print-lines}
 use Rattle.transcript.specs.Runs.{Ran}
 use Rattle.transcript.specs.Texts.{fault-line}
 
@@ -61,3 +64,8 @@ Short false bs text = AllLines (lines bs) text
 
 abbrev pub Transcript : List ℕ → List ℕ → Type 0
 Transcript bs text = Short (ltb longest (length bs)) bs text
+
+-- what the lines from the k-th on print, by the kind's and the registry's letters
+abbrev pub print-by : KindLetter → RegistryLetter → ℕ → ℕ → ℕ → ℕ → List (List ℕ) → List ℕ
+print-by F r k n v start ls = print-lines fields-ops fields-terms (capacity-of r) k (new-model fields-ops n v start) [] ls
+print-by T r k n v start ls = print-lines tallies-ops tallies-terms (capacity-of r) k (new-model tallies-ops n v start) [] ls

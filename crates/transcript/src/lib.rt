@@ -2,3 +2,4 @@
 pub mod fault;
 pub mod lines;
 pub mod text;
+pub mod whole;

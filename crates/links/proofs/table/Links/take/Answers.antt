@@ -15,8 +15,8 @@ row l n r e h = omega (arith, rows-are l, l .heads .ok .0)
 pub index-requires : need.index-requires
 index-requires c κs = omega (arith, take-in (c .args .self .now) (c .args .r) (c .in-Some .s) (row (c .args .self .now) (c .len .result) (c .args .r) (c .len .ensures) (c .if-len-r .left)) (c .in-Some .is) .inside, c .args .self .now .next .ok .0)
 
-pub index-requires-in-Some : need.index-requires-in-Some
-index-requires-in-Some c κs = omega (arith, row-in (c .args .self .now) (c .args .r) (row (c .args .self .now) (c .len .result) (c .args .r) (c .len .ensures) (c .if-len-r .left)), c .args .self .now .heads .ok .0)
+pub index-head-requires : need.index-head-requires
+index-head-requires c κs = omega (arith, row-in (c .args .self .now) (c .args .r) (row (c .args .self .now) (c .len .result) (c .args .r) (c .len .ensures) (c .if-len-r .left)), c .args .self .now .heads .ok .0)
 
 pub index-mut-requires : need.index-mut-requires
 index-mut-requires c κs = omega (arith, take-in (c .args .self .now) (c .args .r) (c .in-Some .s) (row (c .args .self .now) (c .len .result) (c .args .r) (c .len .ensures) (c .if-len-r .left)) (c .in-Some .is) .inside, c .args .self .now .next .ok .0)
@@ -26,7 +26,7 @@ index-mut-requires-in-Some c κs = omega (arith, row-in (c .args .self .now) (c 
 
 pub ghost-self : need.ghost-self
 ghost-self c =
-    let k = take-read (c .args .self .now) (c .args .r) (c .in-Some .s) (c .index .result .now) (c .index-in-Some .result .now) (row (c .args .self .now) (c .len .result) (c .args .r) (c .len .ensures) (c .if-len-r .left)) (c .in-Some .is) (c .index .ensures) (c .index-in-Some .ensures) in
+    let k = take-read (c .args .self .now) (c .args .r) (c .in-Some .s) (c .index .result .now) (c .index-head .result .now) (row (c .args .self .now) (c .len .result) (c .args .r) (c .len .ensures) (c .if-len-r .left)) (c .in-Some .is) (c .index .ensures) (c .index-head .ensures) in
     (k .sound, (k .counted, tt))
 
 pub returns-then-len-r : need.returns-then-len-r
@@ -42,5 +42,5 @@ returns-in-None c = record { size = refl; taken = (refl, λ h. full-is (c .args 
 pub returns-in-Some : need.returns-in-Some
 unfolding slots size
 returns-in-Some c =
-    let k = take-read (c .args .self .now) (c .args .r) (c .in-Some .s) (c .index .result .now) (c .index-in-Some .result .now) (row (c .args .self .now) (c .len .result) (c .args .r) (c .len .ensures) (c .if-len-r .left)) (c .in-Some .is) (c .index .ensures) (c .index-in-Some .ensures) in
+    let k = take-read (c .args .self .now) (c .args .r) (c .in-Some .s) (c .index .result .now) (c .index-head .result .now) (row (c .args .self .now) (c .len .result) (c .args .r) (c .len .ensures) (c .if-len-r .left)) (c .in-Some .is) (c .index .ensures) (c .index-head .ensures) in
     record { size = length-set _ _ _; taken = (k .after, k .inside, k .fresh, row (c .args .self .now) (c .len .result) (c .args .r) (c .len .ensures) (c .if-len-r .left)) }

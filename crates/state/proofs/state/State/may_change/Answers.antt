@@ -22,9 +22,9 @@ returns-then-v-w g c =
     let o = own-is k s i w x (c .pre) (c .index-entry .ensures) in
     o ∙ own-five w i (x .holder) (x .last) (full-up k s) (ap (by-other-of w) (c .in-Some .is) ∙ not-mine w (c .in-Some .v) (c .if-v-w .taken))
 
-pub returns-then-w-entry : need.returns-then-w-entry
+pub returns-then-w-last : need.returns-then-w-last
 unfolding Owned
-returns-then-w-entry g c =
+returns-then-w-last g c =
     let k = g .K·Kind .ops in
     let s = c .args .self .now in
     let i = c .args .i in
@@ -36,7 +36,7 @@ returns-then-w-entry g c =
       | in-Some·else-v-w u ↦ ap (by-other-of w) (u .in-Some .is) ∙ is-mine w (u .in-Some .v) (u .if-v-w .left)
       | in-None u ↦ ap (by-other-of w) (u .in-None .is)
     ] in
-    o ∙ own-six w i (x .holder) (x .last) (full-up k s) mine (c .if-w-entry .taken)
+    o ∙ own-six w i (x .holder) (x .last) (full-up k s) mine (c .if-w-last .taken)
 
 pub returns-then-is-full : need.returns-then-is-full
 unfolding Owned
@@ -57,7 +57,7 @@ returns-then-is-full g c =
       | in-Some·else-v-w u ↦ ap free-of (u .in-Some .is) ∙ sym (u .free-is)
       | in-None u ↦ ap free-of (u .in-None .is) ∙ sym (u .free-is)
     ] in
-    o ∙ own-seven w i (x .holder) (x .last) (full-up k s) mine (c .if-w-entry .left) (fr ∙ c .if-free .taken) (sym (c .is-full .ensures) ∙ c .if-is-full .taken)
+    o ∙ own-seven w i (x .holder) (x .last) (full-up k s) mine (c .if-w-last .left) (fr ∙ c .if-free .taken) (sym (c .is-full .ensures) ∙ c .if-is-full .taken)
 
 pub returns : need.returns
 unfolding Owned
@@ -83,4 +83,4 @@ returns g c =
       | else-free·by·then-free·else-is-full u ↦ ap (λ z. z && full-up k s) (fr ∙ u .if-free .taken) ∙ sym (u .is-full .ensures) ∙ u .if-is-full .left
       | else-free·by·else-free u ↦ ap (λ z. z && full-up k s) (fr ∙ u .if-free .left)
     ] in
-    o ∙ own-fine w i (x .holder) (x .last) (full-up k s) mine (c .if-w-entry .left) left
+    o ∙ own-fine w i (x .holder) (x .last) (full-up k s) mine (c .if-w-last .left) left
