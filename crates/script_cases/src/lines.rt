@@ -1,7 +1,6 @@
 // Lines and bytes: where a line begins and ends, and what counts as a byte of a word.
-use crate::compare::bad_words;
 use crate::compare::prints;
-use crate::compare::unknown_letters;
+use crate::compare::table;
 use std::test::*;
 
 #[test]
@@ -45,24 +44,35 @@ fn a_last_line_feed_begins_no_line(rt: LibcRuntime) -> Result<(), Fail> {
 fn other_control_bytes_belong_to_words(rt: LibcRuntime) -> Result<(), Fail> {
     prints(rt.alloc(), b"F S 1 1 0\r\n", "refused 12 S 8 at 1\n")?;
     prints(rt.alloc(), b"F\tS 1 1 0\n", "refused 11 S 0 at 1\n")?;
-    unknown_letters(
+    table(
         rt.alloc(),
-        "F S 1 1 0",
-        &["o\r", "\r", "b\t", "o\t1", "\0", "o\0", "\to", "c\r 0"],
+        "\
+F S 1 1 0
+o\r > refused 11 S 0 at 2
+\r > refused 11 S 0 at 3
+b\t > refused 11 S 0 at 4
+o\t1 > refused 11 S 0 at 5
+\0 > refused 11 S 0 at 6
+o\0 > refused 11 S 0 at 7
+\to > refused 11 S 0 at 8
+c\r 0 > refused 11 S 0 at 9
+> end 0 0
+",
     )?;
-    bad_words(
+    table(
         rt.alloc(),
-        "F S 1 1 0",
-        &[
-            ("c 0\r", 2),
-            ("c \t0", 2),
-            ("c 0\t", 2),
-            ("c \0", 2),
-            ("v 0\0", 2),
-            ("o \r", 2),
-            ("r 0\t0", 2),
-            ("m 1\r", 2),
-        ],
+        "\
+F S 1 1 0
+c 0\r > refused 12 S 2 at 2
+c \t0 > refused 12 S 2 at 3
+c 0\t > refused 12 S 2 at 4
+c \0 > refused 12 S 2 at 5
+v 0\0 > refused 12 S 2 at 6
+o \r > refused 12 S 2 at 7
+r 0\t0 > refused 12 S 2 at 8
+m 1\r > refused 12 S 2 at 9
+> end 0 0
+",
     )
 }
 
