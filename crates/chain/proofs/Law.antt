@@ -1,13 +1,13 @@
 -- The law of one record, from its parts: pruning, opening, closing and committing keep a list serving and least.
-use mathlib.Core.Path.{_≡_, refl, sym, subst, _∙_, ap}
+use mathlib.Core.Path.{_≡_, sym, subst, _∙_, ap}
 use mathlib.Core.List.{List, [], _∷_}
 use mathlib.Core.Bool.{cond}
 use mathlib.Core.Logic.{_⊎_, inl, inr}
-use Prim.Native.Nat.{ℕ, _≤_, _<_}
+use Prim.Native.Nat.{ℕ, _<_}
 use native.Mathlib.Omega.{arith}
 use Rattle.kind.specs.Kinds.{Ops, Laws}
 use Rattle.chain.specs.declared.version.Version.{Version}
-use Rattle.chain.specs.Versions.{Finished, Open, AtMost, Falling, reading, reads, Serves, Least}
+use Rattle.chain.specs.Versions.{Finished, Open, AtMost, Falling, reading, reads, Serves}
 use Rattle.chain.specs.Pruning.{prune-from, prune}
 use Rattle.chain.specs.RecordLaw.{Right, RecordLaw}
 use Rattle.chain.proofs.Times.{leb-no}
@@ -50,10 +50,3 @@ module _ {Row Edit Change : Type 0} (k : Ops Row Edit Change) where
 
   pub record-law : Laws k → RecordLaw k
   record-law laws = record { pruned = prune-right laws; opened = open-keeps; closed = close-keeps laws; committed = commit-keeps laws }
-
-  -- a list serves, and is least, also from a row that tells the same
-  pub serves-alike : Laws k → (os : ℕ → ℕ) (r q : Row) (full : ℕ → Row) (vs : List (Version Change)) → k .tells r ≡ k .tells q → Serves k os r full vs → Serves k os q full vs
-  serves-alike laws os r q full vs e sv s o = reads-alike k laws vs q r s (sym e) ∙ sv s o
-
-  pub least-alike : Laws k → (os : ℕ → ℕ) (r q : Row) (full : ℕ → Row) (vs : List (Version Change)) → k .tells r ≡ k .tells q → Least k os r full vs → Least k os q full vs
-  least-alike laws os r q full vs e least other so = least other (serves-alike laws os q r full other (sym e) so)

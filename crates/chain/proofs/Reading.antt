@@ -1,8 +1,7 @@
 -- What reading a list gives, and how many versions it undoes.
-use mathlib.Core.Path.{_≡_, refl, sym, subst, _∙_, ap}
+use mathlib.Core.Path.{_≡_, refl, sym, _∙_, ap}
 use mathlib.Core.List.{List, [], _∷_}
 use mathlib.Core.Bool.{Bool, true, false, cond}
-use mathlib.Core.Logic.{_⊎_, inl, inr}
 use Prim.Native.Nat.{ℕ, suc, _+_, _≤_, _<_}
 use native.Mathlib.Omega.{arith}
 use lib.Dec.{ltb}
@@ -12,7 +11,7 @@ use native.Mathlib.Numerals.{add-one}
 use Rattle.kind.specs.Kinds.{Ops, Laws}
 use Rattle.chain.specs.declared.version.Version.{Version}
 use Rattle.chain.specs.Versions.{AtMost, reads}
-use Rattle.chain.proofs.Times.{split, ltb-yes, ltb-no, is-lt, is-ge}
+use Rattle.chain.proofs.Times.{ltb-yes, ltb-no, is-lt, is-ge}
 
 -- how many versions reading at s undoes
 abbrev pub undone : {Change : Type 0} → List (Version Change) → ℕ → ℕ

@@ -3,13 +3,13 @@ use mathlib.Core.Path.{_≡_, refl, sym, subst, _∙_}
 use mathlib.Core.List.{List, [], _∷_}
 use mathlib.Core.Bool.{Bool, true, false, cond, not, _&&_, _||_, true≢false, false≢true}
 use mathlib.Core.Logic.{_⊎_, inl, inr}
-use Prim.Native.Nat.{ℕ, zero, suc, pred, _≤_, _<_}
+use Prim.Native.Nat.{ℕ, zero, suc, _≤_, _<_}
 use native.Mathlib.Omega.{arith}
-use lib.Dec.{T, leb, ltb, leb→le, nleb→lt, ltb→lt, nltb→le, le→leb, lt→ltb, eqb, eqb→eq}
+use lib.Dec.{T, leb, ltb, leb→le, nleb→lt, ltb→lt, nltb→le, le→leb, lt→ltb}
 use native.Mathlib.Decide.{ℕ-discrete, decLt}
 use Rattle.std.specs.declared.option.Option.{Option}
 use Rattle.std.specs.declared.option.Option.the-variants.{None, Some}
-use Prim.Native.Nat.{_+_, min}
+use Prim.Native.Nat.{min}
 use Rattle.std.proofs.shelf.Ways.{tells}
 use Rattle.lease.specs.Times.{opens, count, least, sooner}
 use Rattle.chain.specs.Versions.{Open}

@@ -2,9 +2,9 @@
 --     Right k os r full vs    the list has falling times and serves, and every list that serves is at least as long
 --     RecordLaw k             pruning makes a list right; opening, closing and committing keep it right
 use mathlib.Core.Path.{_≡_}
-use mathlib.Core.List.{List, [], _∷_}
+use mathlib.Core.List.{List, _∷_}
 use mathlib.Core.Logic.{_⊎_}
-use Prim.Native.Nat.{ℕ, _≤_, _<_}
+use Prim.Native.Nat.{ℕ, _<_}
 use Rattle.kind.specs.Kinds.{Ops}
 use Rattle.chain.specs.declared.version.Version.{Version}
 use Rattle.chain.specs.Versions.{Finished, Open, AtMost, Falling, reading, Serves, Least}

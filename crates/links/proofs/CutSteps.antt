@@ -1,17 +1,17 @@
-use mathlib.Core.Path.{_≡_, refl, sym, ap, subst, _∙_}
+-- Cutting out the slot after another one: what the table is after it, as the struct has it.
+use mathlib.Core.Path.{_≡_, sym, ap, subst, _∙_}
 use mathlib.Core.Logic.{_≢_}
-use mathlib.Core.List.{List, [], _∷_, _++_, map}
-use Prim.Native.Nat.{ℕ, zero, suc, _+_, _-_, _≤_, _<_}
+use mathlib.Core.List.{List, [], _∷_, _++_}
+use Prim.Native.Nat.{ℕ, suc, _+_, _-_, _≤_, _<_}
 use native.Mathlib.Omega.{arith}
 use lib.ListN.{length, getD, set, take, drop}
-use Rattle.std.specs.shelf.Lists.{sumBy}
 use Rattle.std.specs.declared.option.Option.{Option}
 use Rattle.std.specs.declared.option.Option.the-variants.{Some, None}
-use Rattle.std.proofs.shelf.Lists.{length-set, length-map, getD-read, take-append-drop, drop-more, take-more, append-assoc}
+use Rattle.std.proofs.shelf.Lists.{length-set, getD-read, take-append-drop, drop-more, take-more, append-assoc}
 use Rattle.std.proofs.shelf.Sums.{getD-le-sumBy}
 use Rattle.links.specs.Walk.{walk, walks, Sound}
 use Rattle.links.specs.declared.table.Links.{Links}
-use Rattle.links.specs.Meaning.{slots, size}
+use Rattle.links.specs.Meaning.{slots}
 use Rattle.links.proofs.Linked.{Run, Inv, inv-from, inv-walks, inv-sound, run-some, run-none}
 use Rattle.links.proofs.Steps.{tails, used-is, row-in}
 use Rattle.links.proofs.Cutting.{cut}

@@ -1,12 +1,12 @@
 -- A slot leaves the middle of a list: the slot s after p goes to the front of the list 0.
 use mathlib.Core.Path.{_≡_, refl, sym, ap, subst, _∙_}
-use mathlib.Core.Logic.{_⊎_, inl, inr, ⊎-elim, _≢_}
-use mathlib.Core.List.{List, [], _∷_, _++_, map}
-use mathlib.Core.Bool.{Bool, true, false, cond}
-use Prim.Native.Nat.{ℕ, zero, suc, _+_, _-_, _≤_, _<_}
+use mathlib.Core.Logic.{_⊎_, ⊎-elim, _≢_}
+use mathlib.Core.List.{List, [], _∷_, _++_}
+use mathlib.Core.Bool.{cond}
+use Prim.Native.Nat.{ℕ, _+_, _-_, _≤_, _<_}
 use native.Mathlib.Omega.{arith}
 use lib.Dec.{eqb}
-use lib.ListN.{length, getD, set, take, drop}
+use lib.ListN.{length, getD, set}
 use Rattle.std.specs.shelf.Lists.{sumBy}
 use Rattle.std.specs.declared.option.Option.{Option}
 use Rattle.std.specs.declared.option.Option.the-variants.{Some, None}
@@ -14,7 +14,7 @@ use Rattle.std.proofs.shelf.Lists.{length-set, length-append, getD-set-same, ge
 use Rattle.std.proofs.shelf.Sums.{sumBy-set, getD-le-sumBy}
 use Rattle.std.proofs.shelf.Tests.{cases-eq}
 use Rattle.links.specs.Walk.{count}
-use Rattle.links.proofs.Linked.{Run, Inv, run-frame, run-some, count-cons, count-cons-same, count-cons-other, count-nil}
+use Rattle.links.proofs.Linked.{Run, Inv, run-frame, count-cons, count-cons-same, count-cons-other, count-nil}
 
 pub count-append : (x : ℕ) (A B : List ℕ) → count x (A ++ B) ≡ count x A + count x B
 count-append x [] B = omega (arith, count-nil x)

@@ -1,12 +1,13 @@
+-- A new table: one free list over all slots, and empty lists.
 use mathlib.Core.Path.{_≡_, refl, sym, ap, subst, _∙_}
-use mathlib.Core.Logic.{_⊎_, inl, inr, ⊎-elim, _≢_}
-use mathlib.Core.List.{List, [], _∷_, _++_, map}
-use mathlib.Core.Bool.{Bool, true, false, cond, _&&_}
+use mathlib.Core.Logic.{_⊎_, ⊎-elim}
+use mathlib.Core.List.{List, [], _∷_, _++_}
+use mathlib.Core.Bool.{cond}
 use Prim.Native.Nat.{ℕ, zero, suc, _+_, _-_, _≤_, _<_}
 use native.Mathlib.Omega.{arith}
 use native.Mathlib.Numerals.{add-one}
 use lib.Dec.{eqb}
-use lib.ListN.{length, getD, set, drop, replicate}
+use lib.ListN.{length, getD, replicate}
 use Rattle.std.specs.shelf.Lists.{sumBy}
 use Rattle.std.specs.declared.option.Option.{Option}
 use Rattle.std.specs.declared.option.Option.the-variants.{Some, None}
@@ -14,7 +15,7 @@ use Rattle.std.proofs.shelf.Lists.{length-replicate, getD-replicate, length-app
 use Rattle.std.proofs.shelf.Sums.{sumBy-cons}
 use Rattle.std.proofs.shelf.Tests.{cases-eq, cond-true, cond-false, eq-eqb, ne-eqb, cases-lt}
 use Rattle.links.specs.Walk.{walk, count, walks, Sound, link-below, links-below}
-use Rattle.links.proofs.Linked.{Run, Inv, inv-walks, inv-sound, count-cons}
+use Rattle.links.proofs.Linked.{Run, Inv, inv-walks, inv-sound}
 use Rattle.links.proofs.Steps.{tails}
 
 pub down : ℕ → List ℕ

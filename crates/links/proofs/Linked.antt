@@ -1,7 +1,8 @@
+-- The way from a link as a relation, Run, and what it keeps when one slot moves from the front of a list to the front of another.
 use mathlib.Core.Path.{_≡_, refl, sym, ap, subst, _∙_}
-use mathlib.Core.Logic.{_⊎_, inl, inr, ⊎-elim, _≢_}
-use mathlib.Core.List.{List, [], _∷_, map}
-use mathlib.Core.Bool.{Bool, true, false, cond, _&&_}
+use mathlib.Core.Logic.{_⊎_, ⊎-elim, _≢_}
+use mathlib.Core.List.{List, [], _∷_}
+use mathlib.Core.Bool.{true, cond}
 use Prim.Native.Nat.{ℕ, zero, suc, _+_, _≤_, _<_}
 use native.Mathlib.Omega.{arith}
 use lib.Dec.{ltb, eqb}
@@ -11,7 +12,7 @@ use Rattle.std.specs.declared.option.Option.{Option}
 use Rattle.std.specs.declared.option.Option.the-variants.{Some, None}
 use Rattle.std.proofs.shelf.Lists.{length-set, getD-set-same, getD-set-other, length-map, getD-map, ext-getD}
 use Rattle.std.proofs.shelf.Sums.{sumBy-set, getD-le-sumBy}
-use Rattle.std.proofs.shelf.Tests.{and-parts, and-from, ltb-true, lt-ltb, eqb-true, eq-eqb, ne-eqb, cases-eq, cond-true, cond-false}
+use Rattle.std.proofs.shelf.Tests.{and-parts, and-from, ltb-true, lt-ltb, eq-eqb, cases-eq, cond-true}
 use Rattle.links.specs.Walk.{walk, good, count, walks, Sound}
 
 -- L is the list of slots on the way from a link

@@ -1,5 +1,5 @@
 -- The places of a list, by the links that lead to them.
-use mathlib.Core.Path.{_≡_, refl, sym, ap, subst, _∙_}
+use mathlib.Core.Path.{_≡_, refl, sym, ap, _∙_}
 use mathlib.Core.List.{List, [], _∷_, _++_}
 use Prim.Native.Nat.{ℕ, zero, suc, _+_, _-_, _≤_, _<_}
 use native.Mathlib.Omega.{arith}
@@ -11,7 +11,7 @@ use Rattle.std.specs.declared.option.Option.{Option}
 use Rattle.std.specs.declared.option.Option.the-variants.{Some, None}
 use Rattle.std.proofs.shelf.Lists.{getD-read, length-drop, drop-drop}
 use Rattle.links.specs.declared.table.Links.{Links}
-use Rattle.links.specs.Meaning.{slots, size, from, Onto, before}
+use Rattle.links.specs.Meaning.{slots, from, Onto, before}
 use Rattle.links.proofs.Linked.{Run, good-run, inv-from}
 use Rattle.links.proofs.Steps.{row-in}
 use Rattle.links.proofs.CutSteps.{place}

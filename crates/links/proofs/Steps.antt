@@ -1,8 +1,8 @@
-use mathlib.Core.Path.{_≡_, refl, sym, ap, subst, _∙_}
-use mathlib.Core.Logic.{_⊎_, inl, inr, ⊎-elim, _≢_}
-use mathlib.Core.List.{List, [], _∷_, map}
-use mathlib.Core.Bool.{Bool, true, false, cond, _&&_}
-use Prim.Native.Nat.{ℕ, zero, suc, _+_, _-_, _≤_, _<_}
+-- Taking a free slot and giving one back: what the table is after it, as the struct has it.
+use mathlib.Core.Path.{_≡_, sym, ap, subst, _∙_}
+use mathlib.Core.Logic.{_≢_}
+use mathlib.Core.List.{List, [], _∷_}
+use Prim.Native.Nat.{ℕ, suc, _+_, _-_, _≤_, _<_}
 use native.Mathlib.Omega.{arith}
 use lib.ListN.{length, getD, set, drop}
 use Rattle.std.specs.shelf.Lists.{sumBy}
@@ -10,7 +10,7 @@ use Rattle.std.specs.declared.option.Option.{Option}
 use Rattle.std.specs.declared.option.Option.the-variants.{Some, None}
 use Rattle.std.proofs.shelf.Lists.{length-set, length-map, getD-read}
 use Rattle.std.proofs.shelf.Sums.{sumBy-cons, getD-le-sumBy}
-use Rattle.links.specs.Walk.{walk, good, count, walks, Sound}
+use Rattle.links.specs.Walk.{walk, count, walks, Sound}
 use Rattle.links.specs.declared.table.Links.{Links}
 use Rattle.links.specs.Meaning.{slots, size}
 use Rattle.links.proofs.Linked.{Run, Inv, inv-from, inv-walks, inv-sound, run-some, run-none, shift, count-cons-same}

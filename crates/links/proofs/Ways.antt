@@ -1,17 +1,18 @@
-use mathlib.Core.Path.{_≡_, refl, sym, ap, subst, _∙_}
-use mathlib.Core.List.{List, [], _∷_, _++_, map}
+-- What a walk sees: the first slot of a list, and the next one.
+use mathlib.Core.Path.{_≡_, sym, ap, subst, _∙_}
+use mathlib.Core.List.{List, [], _∷_}
 use mathlib.Core.Bool.{true}
-use Prim.Native.Nat.{ℕ, zero, suc, _+_, _-_, _≤_, _<_}
+use Prim.Native.Nat.{ℕ, zero, suc, _-_, _≤_, _<_}
 use native.Mathlib.Omega.{arith}
-use lib.ListN.{length, getD, set, drop}
+use lib.ListN.{length, getD, set}
 use Rattle.std.specs.declared.option.Option.{Option}
 use Rattle.std.specs.declared.option.Option.the-variants.{Some, None}
-use Rattle.std.proofs.shelf.Lists.{getD-read, getD-map, length-set, getD-set-same, set-set, length-drop, drop-more, drop-drop}
-use Rattle.links.specs.Walk.{walk, good, walks, Sound}
+use Rattle.std.proofs.shelf.Lists.{getD-read, getD-map, length-set, getD-set-same, set-set}
+use Rattle.links.specs.Walk.{walk, good}
 use Rattle.links.specs.declared.table.Links.{Links}
 use Rattle.links.specs.Meaning.{slots, size, from, Onto}
-use Rattle.links.proofs.Linked.{Run, run-walk, run-good, run-some, run-none, good-run}
-use Rattle.links.proofs.Steps.{row-in, tails}
+use Rattle.links.proofs.Linked.{run-walk, run-good, run-some, good-run}
+use Rattle.links.proofs.Steps.{row-in}
 
 pub walk-short : (nx : List (Option ℕ)) (f : ℕ) (o : Option ℕ) → length (walk nx f o) ≤ f
 unfolding walk
@@ -80,16 +81,3 @@ set-again E W V r D l ew ev =
     let g : getD V r [] ≡ D = ap (λ x. getD x r []) ev ∙ getD-set-same W r D [] lr in
     let s : set W r D ≡ set E r D = ap (λ x. set x r D) ew ∙ set-set E r (getD W r []) D in
     (ev ∙ s ∙ ap (λ x. set E r x) (sym g), g)
-
-pub drop-head : (X : List ℕ) (k s : ℕ) (R : List ℕ) → drop k X ≡ s ∷ R → (k < length X) × (getD X k 0 ≡ s)
-drop-head X k s R e =
-    let a = length-drop k X in
-    let b = ap length e in
-    let h : k < length X = omega arith in
-    (h, tails _ _ _ _ (sym (drop-more X k 0 h) ∙ e) .0)
-
-pub onto-at : (l : Links) (at o : Option ℕ) → Onto l at → at ≡ o → Onto l o
-onto-at l at o h e = let P : Option ℕ → Type 0 = λ x. Onto l x in subst P e h
-
-pub from-next : (X : List ℕ) (i s : ℕ) (F : List ℕ) → s ∷ F ≡ drop i X → F ≡ drop (i + 1) X
-from-next X i s F e = ap (drop 1) e ∙ drop-drop 1 i X

@@ -1,3 +1,9 @@
+-- What a table of links means, and its places.
+--     slots l       the lists, each from its front
+--     size l        how many slots the table has
+--     from l o      the slots from the link o on
+--     Onto l o      the way from the link o stays in the table and ends
+--     before L k    the link to the place before the place k of a list, if there is one
 use mathlib.Core.List.{List}
 use Prim.Native.Nat.{ℕ}
 use lib.ListN.{length}

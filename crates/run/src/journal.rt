@@ -16,7 +16,7 @@ use store::store::Store;
 
 // Performs any journal of calls on a new store with an empty registry, and gives both back. Each call is given what is left of the list,
 // and what it writes stays at the front. It never fails, and allocates nothing.
-// The law of any run: the outcomes are those that the history has, and in the end the store keeps, for each record, a shortest list of versions that serves it.
+// The law of any run: the outcomes are those that the history has, and in the end the store keeps, for each record, a list of versions that serves it and than which none is shorter.
 pub fn run<K: Kind, R: Registry>(
     fresh: Fresh<K>,
     journal: &mut [Turn<K::Edit, K::Row>],

@@ -12,7 +12,7 @@ use crate::words::Words;
 use crate::words::judge;
 use history::call::Call;
 
-// The greatest time, writer's number or fields value.
+// The largest time, number of a writer or fields value.
 const TOP: u64 = 4294967295;
 
 // A command of a script, with its words as they stand in the line.

@@ -21,7 +21,7 @@ pub trait ScriptKind: Kind {
     fn last_attribute() -> u64
         ensures { λ r. ⌜ r ≡ terms .attributes ⌝ };
 
-    // The greatest value.
+    // The largest value.
     fn most() -> u64
         ensures { λ r. ⌜ r ≡ terms .values ⌝ };
 

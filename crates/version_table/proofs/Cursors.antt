@@ -1,27 +1,26 @@
 -- A place in a chain: what is read there, and what a write and a cut make.
-use mathlib.Core.Path.{_≡_, refl, sym, ap, subst, _∙_}
-use mathlib.Core.List.{List, [], _∷_, _++_, map, append-assoc}
-use mathlib.Core.Bool.{Bool, true, false, cond}
+use mathlib.Core.Path.{_≡_, refl, sym, ap, _∙_}
+use mathlib.Core.List.{List, [], _∷_, _++_, map}
+use mathlib.Core.Bool.{Bool, cond}
 use Prim.Native.Nat.{ℕ, zero, suc, _+_, _≤_, _<_}
 use native.Mathlib.Omega.{arith}
-use native.Mathlib.Numerals.{add-one}
 use lib.Dec.{ltb}
 use lib.ListN.{length, getD, set, take, drop}
 use Rattle.std.specs.Options.{Cases, isSome}
 use Rattle.std.specs.shelf.Maps.{nth}
 use Rattle.std.specs.declared.option.Option.{Option}
 use Rattle.std.specs.declared.option.Option.the-variants.{Some, None}
-use Rattle.std.proofs.shelf.Lists.{map-set, set-getD, getD-map}
+use Rattle.std.proofs.shelf.Lists.{map-set, set-getD}
 use Rattle.std.proofs.shelf.Sums.{getD-le-sumBy}
 use Rattle.std.proofs.shelf.Tests.{lt-ltb}
 use Rattle.std.proofs.shelf.Maps.{nth-read, nth-past}
 use Rattle.chain.specs.declared.version.Version.{Version}
 use Rattle.links.specs.Walk.{count}
 use Rattle.links.specs.Meaning.{slots, size}
-use Rattle.links.proofs.Places.{nth-inside, nth-end, row-of, place-in}
+use Rattle.links.proofs.Places.{nth-end, row-of, place-in}
 use Rattle.version_table.specs.declared.table.VersionTable.{VersionTable}
-use Rattle.version_table.specs.Chains.{pick, chains, capacity}
-use Rattle.version_table.proofs.Picks.{inside-versions, chain-is, chain-len, slot-len, slots-once, nth-pick, pick-write, replaced, count-nth, pick-append, pick-take}
+use Rattle.version_table.specs.Chains.{pick, chains}
+use Rattle.version_table.proofs.Picks.{chain-is, chain-len, slot-len, slots-once, nth-pick, pick-write, replaced, count-nth, pick-append, pick-take}
 
 module _ {C : Type 0} (t : VersionTable C) (r k s : ℕ) (e : nth (getD (slots (t .links)) r []) k ≡ Some s) where
   pub slot-in : s < length (t .versions .items)

@@ -1,3 +1,4 @@
+-- What a table of versions holds at the slots of a list, and what moving, adding and writing slots make of it.
 use mathlib.Core.Path.{_≡_, refl, sym, ap, subst, _∙_}
 use mathlib.Core.Logic.{_≢_, ⊎-elim}
 use mathlib.Core.List.{List, [], _∷_, _++_, map}
@@ -14,15 +15,15 @@ use Rattle.std.specs.declared.option.Option.the-variants.{Some, None}
 use Rattle.std.proofs.shelf.Lists.{getD-map, getD-past, length-map, length-set, getD-set-same, set-set, set-getD, map-set, take-more-set, append-assoc, append-nil, drop-set-lt, drop-drop}
 use Rattle.std.proofs.shelf.Sums.{sumBy-cons, sumBy-set, getD-le-sumBy}
 use Rattle.std.proofs.shelf.Maps.{nth-getD, nth-read}
-use Rattle.links.specs.Walk.{walk, good, count, walks, Sound}
+use Rattle.links.specs.Walk.{walk, count, walks}
 use Rattle.links.specs.declared.table.Links.{Links}
 use Rattle.version_table.specs.declared.table.VersionTable.{VersionTable}
 use Rattle.chain.specs.declared.version.Version.{Version}
-use Rattle.links.specs.Meaning.{slots, size, from, Onto}
-use Rattle.version_table.specs.Chains.{pick, onto, chains, capacity}
+use Rattle.links.specs.Meaning.{slots, size, from}
+use Rattle.version_table.specs.Chains.{pick, onto, chains}
 use Rattle.links.proofs.Linked.{Run, good-run, count-cons, count-cons-other, count-cons-same, count-nil}
 use Rattle.links.proofs.Steps.{used-is, row-in}
-use Rattle.links.proofs.Ways.{inside-in, from-none}
+use Rattle.links.proofs.Ways.{from-none}
 
 pub nth-set-other : {X : Type 0} (vs : List X) (i j : ℕ) (x : X) → j ≢ i → nth (set vs i x) j ≡ nth vs j
 nth-set-other [] i j x ne = refl
@@ -267,11 +268,6 @@ pick-tail (w ∷ ws) y M l = ap (drop 1) (pick-at (w ∷ ws) y (getD (w ∷ ws) 
 pub chain-tail : {C : Type 0} (k : VersionTable C) (r s : ℕ) (o : Option ℕ) → from (k .links) (Some s) ≡ getD (slots (k .links)) r [] → from (k .links) (Some s) ≡ s ∷ from (k .links) o → s < size (k .links) → pick (k .versions .items) (from (k .links) o) ≡ drop 1 (getD (chains k) r [])
 chain-tail k r s o e1 e2 l =
     sym (ap (drop 1) (chain-is k r ∙ ap (pick (k .versions .items)) (sym e1 ∙ e2)) ∙ pick-tail (k .versions .items) s (from (k .links) o) (inside-versions k s l))
-
--- no more versions than slots
-pub chains-le : {C : Type 0} (k : VersionTable C) → sumBy length (chains k) ≤ capacity k
-unfolding capacity
-chains-le k = omega (arith, chains-sum k, slots-le (k .links))
 
 -- what a push answers
 pub push-refused : (r n s m : ℕ) → (r < n → s ≡ m) → false ≡ (ltb r n && ltb s m)

@@ -1,6 +1,6 @@
 -- One turn of pruning in place: the version at a place of the chain r leaves it, is joined into the next, or stays.
-use mathlib.Core.Path.{_≡_, refl, sym, ap, subst, _∙_}
-use mathlib.Core.List.{List, [], _∷_, _++_, append-assoc, append-nil}
+use mathlib.Core.Path.{_≡_, refl, sym, ap, _∙_}
+use mathlib.Core.List.{List, [], _∷_, _++_, append-assoc}
 use mathlib.Core.Bool.{Bool, true, false}
 use Prim.Native.Nat.{ℕ, zero, suc, _+_, _-_, _≤_, _<_}
 use native.Mathlib.Omega.{arith}
@@ -9,7 +9,7 @@ use lib.ListN.{length, getD, set, take, drop}
 use Rattle.std.specs.shelf.Maps.{nth}
 use Rattle.std.specs.declared.option.Option.{Option}
 use Rattle.std.specs.declared.option.Option.the-variants.{Some, None}
-use Rattle.std.proofs.shelf.Lists.{getD-set-same, length-set, length-take-le, length-drop, take-more, drop-all, take-all, set-getD, set-set}
+use Rattle.std.proofs.shelf.Lists.{getD-set-same, length-set, length-drop, take-more, drop-all, take-all, set-set}
 use Rattle.kind.specs.Kinds.{Ops, same}
 use Rattle.chain.specs.declared.version.Version.{Version}
 use Rattle.chain.specs.Pruning.{open-in, floor, absorb, join-versions, prune, prune-held}

@@ -1,9 +1,12 @@
+-- What a version table means: one list of versions for each record.
+--     chains t             the chains, each with its newest version first
+--     capacity t           how many versions there can be
+--     pick vs L            what a table holds at the slots of a list
+--     Listed vs out n out′ the times of the versions stand at the front of a list, whose rest is as it was; n says how many
 use mathlib.Core.List.{List, [], _∷_, map}
-use mathlib.Core.Bool.{cond}
 use Prim.Native.Nat.{ℕ}
 use mathlib.Core.Path.{_≡_}
 use lib.ListN.{length, take, drop}
-use lib.Dec.{ltb}
 use Rattle.std.specs.Of.Vec.{vec-items}
 use Rattle.std.specs.shelf.Maps.{nth}
 use Rattle.std.specs.declared.option.Option.{Option}

@@ -131,14 +131,7 @@ pub fn prune_behind<K: Kind, R: Registry>(
     let first = table.links.first(r);
     if let Some(held) = table.look(r, 0, first) {
         let next = table.links.follow(r, 0, first);
-        prune_from::<K, R>(
-            table,
-            r,
-            registry,
-            K::undo(place, held.change),
-            1,
-            first,
-            next,
-        );
+        let finished = K::undo(place, held.change);
+        prune_from::<K, R>(table, r, registry, finished, 1, first, next);
     }
 }

@@ -38,7 +38,8 @@ pub fn read_past_first<K: Kind>(table: &VersionTable<K::Change>, r: usize, t: u3
     ensures { λ _. ⌜ now (row .exit) ≡ reads (K·Kind .ops) (now (row .entry)) (drop 1 (getD (chains (now (table .entry))) r [])) t ⌝ }
 {
     if let Some(s) = table.links.first(r) {
-        read_from::<K>(table, table.links.after(s), t, row);
+        let next = table.links.after(s);
+        read_from::<K>(table, next, t, row);
     }
 }
 
@@ -74,7 +75,10 @@ pub fn times_past_first<C: Copy>(table: &VersionTable<C>, r: usize, out: &mut [u
     ensures { λ n. ⌜ Listed (drop 1 (getD (chains (now (table .entry))) r [])) (now (out .entry)) n (now (out .exit)) ⌝ }
 {
     match table.links.first(r) {
-        Some(s) => times_from(table, table.links.after(s), out),
+        Some(s) => {
+            let next = table.links.after(s);
+            times_from(table, next, out)
+        }
         None => 0,
     }
 }

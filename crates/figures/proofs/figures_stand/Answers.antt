@@ -1,4 +1,4 @@
-use mathlib.Core.Path.{_≡_, refl, ap}
+use mathlib.Core.Path.{refl, ap}
 use lib.ListN.{getD}
 use Rattle.fields.specs.declared.Attributes.{Attributes}
 use Rattle.kind.specs.Kinds.{same}

@@ -1,4 +1,3 @@
-use borrow.Author.Needs.{needs}
 use mathlib.Core.Path.{_∙_, ap}
 use mathlib.Core.List.{_++_, _∷_, []}
 use Rattle.std.specs.declared.option.Option.the-variants.{None}

@@ -1,6 +1,5 @@
 use borrow.Author.Needs.{needs}
-use mathlib.Core.Path.{_∙_, ap, sym, refl}
-use mathlib.Core.List.{_++_, _∷_, []}
+use mathlib.Core.Path.{sym, refl}
 use Rattle.links.specs.Walk.{links-below, link-below}
 use Rattle.links.proofs.Fresh.{links-below-more, link-below-more}
 use Rattle.links.proofs.make.one_list.Needs as need

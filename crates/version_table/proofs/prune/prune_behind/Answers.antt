@@ -1,4 +1,4 @@
-use mathlib.Core.Path.{_≡_, refl, sym, ap, _∙_}
+use mathlib.Core.Path.{refl, sym, ap, _∙_}
 use mathlib.Core.List.{[]}
 use lib.ListN.{getD, set}
 use Rattle.std.proofs.shelf.Lists.{set-getD}
@@ -21,5 +21,5 @@ returns-in-Some g c =
     let cs = chains (c .args .table .now) in
     record {
       room = c .prune-from .ensures .room;
-      pruned = c .prune-from .ensures .pruned ∙ ap (set cs (c .args .r)) (held-first k os (c .args .place) (getD cs (c .args .r) []) (c .in-Some .held) (c .undo .result) (sym (c .in-Some .ensures tt)) (c .undo .ensures));
+      pruned = c .prune-from .ensures .pruned ∙ ap (set cs (c .args .r)) (held-first k os (c .args .place) (getD cs (c .args .r) []) (c .in-Some .held) (c .undo-finished .result) (sym (c .in-Some .ensures tt)) (c .undo-finished .ensures));
     }

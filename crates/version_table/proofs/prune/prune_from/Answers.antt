@@ -1,12 +1,10 @@
 use mathlib.Core.Path.{_≡_, refl, sym, ap, _∙_}
-use mathlib.Core.List.{List, [], _++_, append-nil}
-use mathlib.Core.Bool.{true, false}
-use Prim.Native.Nat.{_+_, _<_}
+use mathlib.Core.List.{[], _++_, append-nil}
+use Prim.Native.Nat.{_+_}
 use native.Mathlib.Omega.{arith}
 use native.Mathlib.Numerals.{add-one}
 use borrow.Author.Needs.{needs}
-use lib.ListN.{length, getD, set, take, drop}
-use Rattle.std.specs.shelf.Maps.{nth}
+use lib.ListN.{getD, set, take, drop}
 use Rattle.std.proofs.shelf.Lists.{set-getD, length-drop, drop-all, take-all}
 use Rattle.lease.specs.Times.{opens}
 use Rattle.kind.proofs.Telling.{decided}
@@ -15,7 +13,7 @@ use Rattle.chain.proofs.Times.{none-open}
 use Rattle.chain.proofs.Rule.{nothing}
 use Rattle.links.specs.Meaning.{slots, before}
 use Rattle.links.proofs.Places.{nth-end}
-use Rattle.version_table.specs.Chains.{chains, capacity}
+use Rattle.version_table.specs.Chains.{chains}
 use Rattle.version_table.proofs.Picks.{chain-len, list-small}
 use Rattle.version_table.proofs.Turns.{After, left, inside, fewer, kept-turn, idle-turn, join-turn, absorb-short}
 use Rattle.version_table.proofs.prune.prune_from.Given as given

@@ -1,5 +1,4 @@
-use mathlib.Core.Path.{_≡_, refl, sym, ap, _∙_}
-use mathlib.Core.List.{_∷_}
+use mathlib.Core.Path.{sym, ap, _∙_}
 use Rattle.links.specs.Meaning.{from}
 use Rattle.version_table.specs.Chains.{pick}
 use Rattle.chain.specs.Versions.{reads}

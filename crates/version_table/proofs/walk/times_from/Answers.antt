@@ -1,13 +1,13 @@
 use mathlib.Core.Path.{_≡_, _∙_, ap, sym}
-use mathlib.Core.List.{map, [], _∷_, _++_}
+use mathlib.Core.List.{map, _∷_, _++_}
 use borrow.Author.Needs.{needs}
 use native.Mathlib.Omega.{arith}
 use Prim.Native.Nat.{ℕ, _<_}
-use lib.ListN.{length, getD, take}
+use lib.ListN.{length, take}
 use Rattle.chain.specs.declared.version.Version.{Version}
-use Rattle.links.specs.Meaning.{from, slots}
+use Rattle.links.specs.Meaning.{from}
 use Rattle.version_table.specs.Chains.{pick}
-use Rattle.version_table.proofs.Picks.{cursor, cursor-end, chain-is, list-small, slot-len, written-more, written-all}
+use Rattle.version_table.proofs.Picks.{cursor, cursor-end, written-more, written-all}
 use Rattle.version_table.proofs.walk.times_from.Given as given
 use Rattle.version_table.proofs.walk.times_from.Needs as need
 

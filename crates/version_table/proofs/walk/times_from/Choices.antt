@@ -1,8 +1,8 @@
 use mathlib.Core.Path.{_≡_}
-use mathlib.Core.List.{[], map, _++_}
+use mathlib.Core.List.{map, _++_}
 use Prim.Native.Nat.{_+_}
-use lib.ListN.{length, getD, take, drop}
-use Rattle.links.specs.Meaning.{slots, from, Onto}
+use lib.ListN.{length, take, drop}
+use Rattle.links.specs.Meaning.{from, Onto}
 use Rattle.version_table.specs.Chains.{pick}
 use Rattle.version_table.proofs.walk.times_from.Given as given
 

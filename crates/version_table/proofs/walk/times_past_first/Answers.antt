@@ -1,7 +1,6 @@
 use mathlib.Core.Path.{_≡_, refl, sym, ap, subst, _∙_}
-use mathlib.Core.List.{List, [], map}
-use Prim.Native.Nat.{_≤_}
-use lib.ListN.{length, drop, getD, take}
+use mathlib.Core.List.{List, []}
+use lib.ListN.{length, drop, getD}
 use native.Mathlib.Omega.{arith}
 use Rattle.chain.specs.declared.version.Version.{Version}
 use Rattle.version_table.specs.Chains.{chains, pick, Listed}
@@ -11,12 +10,12 @@ use Rattle.version_table.proofs.walk.times_past_first.Needs as need
 
 pub times-from-requires : need.times-from-requires
 times-from-requires g c κs =
-    let e = chain-tail (c .args .table .now) (c .args .r) (c .in-Some .s) (c .after .result) (c .in-Some .ensures tt .list) (c .after .ensures .list) (c .after .ensures .inside) in
-    record { onto = c .after .ensures .onto; room = omega (arith, ap length e, c .pre) }
+    let e = chain-tail (c .args .table .now) (c .args .r) (c .in-Some .s) (c .after-next .result) (c .in-Some .ensures tt .list) (c .after-next .ensures .list) (c .after-next .ensures .inside) in
+    record { onto = c .after-next .ensures .onto; room = omega (arith, ap length e, c .pre) }
 
 pub returns-in-Some : need.returns-in-Some
 returns-in-Some g c =
-    let e = chain-tail (c .args .table .now) (c .args .r) (c .in-Some .s) (c .after .result) (c .in-Some .ensures tt .list) (c .after .ensures .list) (c .after .ensures .inside) in
+    let e = chain-tail (c .args .table .now) (c .args .r) (c .in-Some .s) (c .after-next .result) (c .in-Some .ensures tt .list) (c .after-next .ensures .list) (c .after-next .ensures .inside) in
     subst (λ (vs : List (Version (g .C .Denot))). Listed vs (c .args .out .now) (c .times-from .result) (c .times-from .last .out)) e (c .times-from .ensures)
 
 pub returns-in-None : need.returns-in-None

@@ -1,6 +1,5 @@
 use mathlib.Core.Path.{_≡_}
 use mathlib.Core.List.{[]}
-use Prim.Native.Nat.{_<_}
 use lib.ListN.{length, getD, set}
 use Rattle.links.specs.Meaning.{slots, size}
 use Rattle.links.proofs.table.Links.clear.Given as given

@@ -1,4 +1,3 @@
-use mathlib.Core.Path.{_≡_, sym}
 use mathlib.Core.List.{[]}
 use native.Mathlib.Omega.{arith}
 use Prim.Native.Nat.{_-_}

@@ -1,10 +1,10 @@
-use mathlib.Core.Path.{_≡_, refl, sym, _∙_}
+use mathlib.Core.Path.{refl, sym, _∙_}
 use native.Mathlib.Omega.{arith}
 use Rattle.std.proofs.shelf.Lists.{length-set}
 use Rattle.links.specs.Meaning.{slots, size}
-use Rattle.links.proofs.Steps.{row-in, Given, give-in, give-read}
+use Rattle.links.proofs.Steps.{row-in, give-in, give-read}
 use Rattle.links.proofs.Ways.{from-none}
-use Rattle.links.proofs.Places.{Front, front}
+use Rattle.links.proofs.Places.{front}
 use Rattle.links.proofs.table.Links.give.Needs as need
 
 pub index-requires : need.index-requires

@@ -1,4 +1,4 @@
-use mathlib.Core.Path.{_∙_, sym, ap, refl}
+use mathlib.Core.Path.{_∙_, ap}
 use mathlib.Core.List.{map, []}
 use lib.ListN.{set}
 use Rattle.std.proofs.shelf.Lists.{map-set}

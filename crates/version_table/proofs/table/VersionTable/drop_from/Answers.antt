@@ -1,10 +1,9 @@
-use mathlib.Core.Path.{_≡_, refl, sym, ap, _∙_}
-use mathlib.Core.List.{List, []}
-use Prim.Native.Nat.{_+_, _<_}
+use mathlib.Core.Path.{refl, sym, ap, _∙_}
+use mathlib.Core.List.{[]}
+use Prim.Native.Nat.{_+_}
 use native.Mathlib.Omega.{arith}
-use lib.ListN.{length, getD, set, drop}
+use lib.ListN.{getD, set, drop}
 use Rattle.std.proofs.shelf.Lists.{set-getD}
-use Rattle.links.specs.Meaning.{slots}
 use Rattle.links.proofs.Places.{nth-inside}
 use Rattle.version_table.specs.Chains.{chains}
 use Rattle.version_table.proofs.Turns.{After, left, ended, fewer}

@@ -1,11 +1,8 @@
-use mathlib.Core.Path.{_≡_, _∙_, sym, ap}
-use Prim.Native.Nat.{ℕ}
+use mathlib.Core.Path.{_≡_, _∙_, ap}
 use native.Mathlib.Omega.{arith}
 use lib.Dec.{leb}
-use lib.ListN.{length}
-use Rattle.std.specs.shelf.Lists.{sumBy}
 use Rattle.links.specs.Meaning.{size}
-use Rattle.version_table.specs.Chains.{chains, capacity}
+use Rattle.version_table.specs.Chains.{capacity}
 use Rattle.version_table.proofs.table.VersionTable.is_full.Needs as need
 
 pub returns : need.returns

@@ -1,5 +1,5 @@
-use mathlib.Core.Path.{_∙_, sym, ap, refl}
-use mathlib.Core.List.{map, []}
+use mathlib.Core.Path.{ap}
+use mathlib.Core.List.{map}
 use Rattle.links.specs.Meaning.{slots}
 use Rattle.version_table.specs.Chains.{chains, capacity, pick}
 use Rattle.version_table.proofs.Picks.{row-empty, popped, inside-versions}
