@@ -116,7 +116,10 @@ fn lists_too_short(rt: LibcRuntime) -> Result<(), Fail> {
 fn three_before_four(rt: LibcRuntime) -> Result<(), Fail> {
     let scene = [
         x(Call::Read(9, 1), by_store(3, 1)),
-        x(Call::Look(9, 18446744073709551615), by_store(3, 18446744073709551615)),
+        x(
+            Call::Look(9, 18446744073709551615),
+            by_store(3, 18446744073709551615),
+        ),
         x(set3(9, 1, 5), by_store(3, 1)),
         x(Call::Kept(1), by_store(3, 1)),
         x(Call::Read(9, 0), by_registry(4, 9)),

@@ -69,7 +69,10 @@ fn two_leases_at_one_time(rt: LibcRuntime) -> Result<(), Fail> {
         return Err(Fail::new("sizes"));
     };
     let mut list = [0; 4];
-    check_eq(play::<SortedList>(rt.alloc(), sizes, &scene, &mut list)?, 12)?;
+    check_eq(
+        play::<SortedList>(rt.alloc(), sizes, &scene, &mut list)?,
+        12,
+    )?;
     check_eq(list, [2, 2, 0, 0])
 }
 
@@ -94,6 +97,9 @@ fn a_session(rt: LibcRuntime) -> Result<(), Fail> {
         return Err(Fail::new("sizes"));
     };
     let mut list = [0; 2];
-    check_eq(play::<SortedList>(rt.alloc(), sizes, &scene, &mut list)?, 12)?;
+    check_eq(
+        play::<SortedList>(rt.alloc(), sizes, &scene, &mut list)?,
+        12,
+    )?;
     check_eq(list, [4, 0])
 }
