@@ -1,7 +1,7 @@
 -- The times of every chain fall, and each step keeps that.
 use mathlib.Core.Path.{_≡_, refl, sym, ap, subst, _∙_}
 use mathlib.Core.List.{List, [], _∷_, map}
-use mathlib.Core.Bool.{Bool, true, false, cond, _&&_, false≢true}
+use mathlib.Core.Bool.{Bool, true, false, cond}
 use Prim.Native.Nat.{ℕ, zero, suc, _+_, _<_, _≤_}
 use native.Mathlib.Omega.{arith}
 use lib.Dec.{eqb, leb}
@@ -15,13 +15,7 @@ use Rattle.chain.proofs.Reading.{atmost-mono}
 use Rattle.history.specs.History.{Hold, free, held, at-or, change-at}
 use Rattle.history.specs.Model.{Stored, change-stored, finish-stored, finish-under, free-stored, free-under, pruned, new-stored, finished-row}
 use Rattle.state.specs.Stored.{falls, all-fall}
-
-and-both : (a b : Bool) → (a && b) ≡ true → (a ≡ true) × (b ≡ true)
-and-both true b e = (refl, e)
-and-both false b e = absurd (false≢true e)
-
-both-and : (a b : Bool) → a ≡ true → b ≡ true → (a && b) ≡ true
-both-and a b x y = ap (λ z. z && b) x ∙ y
+use Rattle.state.proofs.Views.{and-both, both-and}
 
 module _ {C : Type 0} where
   falls-mono : (t u : ℕ) (vs : List (Version C)) → t ≤ u → falls t vs ≡ true → falls u vs ≡ true

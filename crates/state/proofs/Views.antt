@@ -33,11 +33,11 @@ use Rattle.state.specs.Stored.{hold-of, behind, stored, viewed}
 use Rattle.state.specs.View.{view}
 use Rattle.history.specs.Law.{is-held}
 
-and-both : (a b : Bool) → (a && b) ≡ true → (a ≡ true) × (b ≡ true)
+pub and-both : (a b : Bool) → (a && b) ≡ true → (a ≡ true) × (b ≡ true)
 and-both true b e = (refl, e)
 and-both false b e = absurd (false≢true e)
 
-both-and : (a b : Bool) → a ≡ true → b ≡ true → (a && b) ≡ true
+pub both-and : (a b : Bool) → a ≡ true → b ≡ true → (a && b) ≡ true
 both-and a b x y = ap (λ z. z && b) x ∙ y
 
 one-use : {C : Type 0} (o : Option ℕ) (c : List (Version C)) → backed o c ≡ true → length (behind o c) + is-held (hold-of o c) ≡ length c
