@@ -1,10 +1,10 @@
 // Limits: a table of one version, the clock's last time, a full registry, lists too short, and the order of checks.
-use crate::scene::Expected;
 use crate::scene::by_registry;
 use crate::scene::by_store;
 use crate::scene::play;
 use crate::scene::row3;
 use crate::scene::set3;
+use crate::scene::x;
 use history::call::Call;
 use history::call::Outcome;
 use slot_table::SlotTable;
@@ -13,10 +13,6 @@ use std::test::*;
 use store::sizes::Sizes;
 
 const LAST: u32 = 4294967295;
-
-fn x(call: Call<fields::Patch>, outcome: Outcome<fields::Attributes>) -> Expected {
-    Expected { call, outcome }
-}
 
 // One version: a second record finds 7, the held one takes more edits, and a dropped version is used again.
 #[test]
@@ -116,7 +112,10 @@ fn lists_too_short(rt: LibcRuntime) -> Result<(), Fail> {
 fn three_before_four(rt: LibcRuntime) -> Result<(), Fail> {
     let scene = [
         x(Call::Read(9, 1), by_store(3, 1)),
-        x(Call::Look(9, 18446744073709551615), by_store(3, 18446744073709551615)),
+        x(
+            Call::Look(9, 18446744073709551615),
+            by_store(3, 18446744073709551615),
+        ),
         x(set3(9, 1, 5), by_store(3, 1)),
         x(Call::Kept(1), by_store(3, 1)),
         x(Call::Read(9, 0), by_registry(4, 9)),

@@ -1,9 +1,9 @@
 // Reports: an hour's statement against changing rows, and leases at one time.
-use crate::scene::Expected;
 use crate::scene::by_registry;
 use crate::scene::play;
 use crate::scene::row3;
 use crate::scene::set3;
+use crate::scene::x;
 use history::call::Call;
 use history::call::Outcome;
 use slot_table::SlotTable;
@@ -12,10 +12,6 @@ use sorted_list::SortedList;
 use sorted_list::SortedListRegistry;
 use std::test::*;
 use store::sizes::Sizes;
-
-fn x(call: Call<fields::Patch>, outcome: Outcome<fields::Attributes>) -> Expected {
-    Expected { call, outcome }
-}
 
 // The statement opened at 10 goes on to read what was there at 10. One version leads back over both commits, and has the
 // newer time; once the statement is closed no version is kept.
@@ -69,7 +65,10 @@ fn two_leases_at_one_time(rt: LibcRuntime) -> Result<(), Fail> {
         return Err(Fail::new("sizes"));
     };
     let mut list = [0; 4];
-    check_eq(play::<SortedList>(rt.alloc(), sizes, &scene, &mut list)?, 12)?;
+    check_eq(
+        play::<SortedList>(rt.alloc(), sizes, &scene, &mut list)?,
+        12,
+    )?;
     check_eq(list, [2, 2, 0, 0])
 }
 
@@ -94,6 +93,9 @@ fn a_session(rt: LibcRuntime) -> Result<(), Fail> {
         return Err(Fail::new("sizes"));
     };
     let mut list = [0; 2];
-    check_eq(play::<SortedList>(rt.alloc(), sizes, &scene, &mut list)?, 12)?;
+    check_eq(
+        play::<SortedList>(rt.alloc(), sizes, &scene, &mut list)?,
+        12,
+    )?;
     check_eq(list, [4, 0])
 }
