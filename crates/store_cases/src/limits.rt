@@ -1,10 +1,10 @@
 // Limits: a table of one version, the clock's last time, a full registry, lists too short, and the order of checks.
-use crate::scene::Expected;
 use crate::scene::by_registry;
 use crate::scene::by_store;
 use crate::scene::play;
 use crate::scene::row3;
 use crate::scene::set3;
+use crate::scene::x;
 use history::call::Call;
 use history::call::Outcome;
 use slot_table::SlotTable;
@@ -13,10 +13,6 @@ use std::test::*;
 use store::sizes::Sizes;
 
 const LAST: u32 = 4294967295;
-
-fn x(call: Call<fields::Patch>, outcome: Outcome<fields::Attributes>) -> Expected {
-    Expected { call, outcome }
-}
 
 // One version: a second record finds 7, the held one takes more edits, and a dropped version is used again.
 #[test]

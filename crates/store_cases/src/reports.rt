@@ -1,9 +1,9 @@
 // Reports: an hour's statement against changing rows, and leases at one time.
-use crate::scene::Expected;
 use crate::scene::by_registry;
 use crate::scene::play;
 use crate::scene::row3;
 use crate::scene::set3;
+use crate::scene::x;
 use history::call::Call;
 use history::call::Outcome;
 use slot_table::SlotTable;
@@ -12,10 +12,6 @@ use sorted_list::SortedList;
 use sorted_list::SortedListRegistry;
 use std::test::*;
 use store::sizes::Sizes;
-
-fn x(call: Call<fields::Patch>, outcome: Outcome<fields::Attributes>) -> Expected {
-    Expected { call, outcome }
-}
 
 // The statement opened at 10 goes on to read what was there at 10. One version leads back over both commits, and has the
 // newer time; once the statement is closed no version is kept.

@@ -22,6 +22,11 @@ pub struct Expected {
     pub outcome: Outcome<Attributes>,
 }
 
+// A call with its expected outcome.
+pub fn x(call: Call<Patch>, outcome: Outcome<Attributes>) -> Expected {
+    Expected { call, outcome }
+}
+
 // Sets attribute 3 of a record.
 pub fn set3(writer: u32, record: u64, value: u32) -> Call<Patch> {
     let patch = Patch {

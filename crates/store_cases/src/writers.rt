@@ -1,20 +1,16 @@
 // Writers: conflicts, abandoned changes, and a writer whose lease was closed.
-use crate::scene::Expected;
 use crate::scene::by_registry;
 use crate::scene::by_store;
 use crate::scene::play;
 use crate::scene::row3;
 use crate::scene::set3;
+use crate::scene::x;
 use history::call::Call;
 use history::call::Outcome;
 use slot_table::SlotTable;
 use slot_table::SlotTableRegistry;
 use std::test::*;
 use store::sizes::Sizes;
-
-fn x(call: Call<fields::Patch>, outcome: Outcome<fields::Attributes>) -> Expected {
-    Expected { call, outcome }
-}
 
 // While 1 holds the record 2 is refused with 5; once 1 has committed at 3 it is refused with 6.
 #[test]
