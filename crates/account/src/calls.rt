@@ -73,8 +73,10 @@ pub fn read_row<K: Kind, R: Registry>(
     ensures { λ r. ⌜ ReadAt (K·Kind .ops) (view (now (store .entry))) (R·Registry .leases (now (registry .entry))) (now (lease .entry) .time) «record» r ⌝ }
 {
     let mut row = K::blank();
-    store.read(registry, lease, record, &mut row)?;
-    Ok(row)
+    match store.read(registry, lease, record, &mut row) {
+        Ok(_) => Ok(row),
+        Err(fault) => Err(fault),
+    }
 }
 
 // The row that a report opened just now reads; the report is closed again.

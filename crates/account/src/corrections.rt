@@ -52,10 +52,7 @@ fn show_versions(rt: &impl Print, truck: &Truck) -> io::Result<()> {
         let time = out[i];
         let from = truck.weight_at(time);
         let back = truck.weight_at(time.saturating_sub(1));
-        println!(
-            rt,
-            "  version {time} leads from {from} back to {back} kg"
-        )?;
+        println!(rt, "  version {time} leads from {from} back to {back} kg")?;
     }
     Ok(())
 }

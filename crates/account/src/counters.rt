@@ -29,7 +29,10 @@ fn show_counters(
     yard: u64,
 ) -> io::Result<()> {
     let before = read_row::<Tallies, SlotTable>(store, registry, report, yard);
-    match (read_now::<Tallies, SlotTable>(store, registry, yard), before) {
+    match (
+        read_now::<Tallies, SlotTable>(store, registry, yard),
+        before,
+    ) {
         (Ok(newest), Ok(reported)) => {
             let [loads, kg, _, _] = numbers(newest);
             let [old_loads, old_kg, _, _] = numbers(reported);
@@ -89,18 +92,14 @@ fn more_loads(
     println!(rt, "  leases open: trucks {trucks}, counters {counters}")
 }
 
-// The counters of a new store; `leases` and `used` are what the store of the trucks has.
-pub fn manager(
+// The counters in a new store; `leases` and `used` are what the store of the trucks has.
+fn counters_of(
     rt: &impl Print,
     heap: Global,
     sizes: Sizes,
     leases: u32,
     used: usize,
 ) -> io::Result<()> {
-    println!(
-        rt,
-        "The yard manager's counters stand in a store of their own, with its own registry."
-    )?;
     let mut store = Store::<Tallies>::make(heap, sizes)?;
     let mut registry = SlotTable::empty();
     first_loads(rt, &mut store, &mut registry)?;
@@ -118,5 +117,17 @@ pub fn manager(
             "  the report is closed; versions in use: trucks {used}, counters {counters}"
         ),
         Err(fault) => show_refusal(rt, "the closing", fault),
+    }
+}
+
+// Two yards with room for two versions.
+pub fn manager(rt: &impl Print, heap: Global, leases: u32, used: usize) -> io::Result<()> {
+    println!(
+        rt,
+        "The yard manager's counters stand in a store of their own, with its own registry."
+    )?;
+    match Sizes::check(2, 2, 0) {
+        Ok(sizes) => counters_of(rt, heap, sizes, leases, used),
+        Err(fault) => show_refusal(rt, "the store of the counters", fault),
     }
 }

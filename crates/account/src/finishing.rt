@@ -44,11 +44,7 @@ pub fn row_at<K: Kind>(table: &VersionTable<K::Change>, row: K::Row, time: u32) 
 }
 
 // From the newest row down over the open times: how often the reading differs from the one before.
-pub fn differing<K: Kind>(
-    table: &VersionTable<K::Change>,
-    newest: K::Row,
-    times: &[u32],
-) -> usize
+pub fn differing<K: Kind>(table: &VersionTable<K::Change>, newest: K::Row, times: &[u32]) -> usize
     ensures { λ n. ⌜ n ≡ points (K·Kind .ops) newest (getD (chains (now (table .entry))) 0 []) newest (now (times .entry)) ⌝ }
 {
     let mut last = newest;

@@ -1,5 +1,5 @@
-use crate::standing::fill;
-use crate::standing::standing;
+use crate::asking::ask;
+use crate::asking::fill;
 use lease::leasing::close_lease;
 use lease::leasing::open_lease;
 use lease::registry::Registry;
@@ -14,7 +14,7 @@ use std::io;
 
 // The rest of a line: the numbers at a time and in all, and the least open time.
 fn show_standing<R: Registry>(rt: &impl Print, registry: &R, time: u32) -> io::Result<()> {
-    let s = standing(registry, time);
+    let s = ask(registry, time);
     let there = s.there;
     let in_all = s.in_all;
     match s.least {

@@ -1,4 +1,5 @@
 // An account of one day at the weighbridge, told from beginning to end. Each figure is computed by the library.
+mod asking;
 mod calls;
 mod corrections;
 mod counters;
@@ -9,7 +10,6 @@ mod moments;
 mod office;
 mod refusals;
 mod service;
-mod standing;
 mod statement;
 mod trucks;
 mod yard;

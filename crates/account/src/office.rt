@@ -24,7 +24,6 @@ fn meanwhile(
     store: &mut Store<Fields>,
     registry: &mut SortedList,
     statement: &Lease,
-    yards: Sizes,
 ) -> io::Result<()> {
     let time = statement.time();
     println!(
@@ -33,37 +32,29 @@ fn meanwhile(
     )?;
     corrections(rt, store, registry, statement)?;
     whole_change(rt, store, registry, statement)?;
-    manager(rt, heap, yards, registry.total(), store.in_use())?;
+    manager(rt, heap, registry.total(), store.in_use())?;
     engineer(rt, store, registry)
 }
 
-// The hour over stores of these sizes.
-fn hour_of(rt: &impl Print, heap: Global, trucks: Sizes, yards: Sizes) -> io::Result<()> {
-    let mut store = Store::<Fields>::make(heap, trucks)?;
+// The hour over a store of these sizes.
+fn hour_of(rt: &impl Print, heap: Global, sizes: Sizes) -> io::Result<()> {
+    let mut store = Store::<Fields>::make(heap, sizes)?;
     let mut registry = SortedList::empty();
     first_weights(rt, &mut store, &mut registry)?;
     let statement = match store.open(&mut registry) {
         Ok(statement) => statement,
         Err(fault) => return show_refusal(rt, "the statement", fault),
     };
-    let told = meanwhile(
-        rt,
-        heap,
-        &mut store,
-        &mut registry,
-        &statement,
-        yards,
-    );
+    let told = meanwhile(rt, heap, &mut store, &mut registry, &statement);
     let asked = buyer(rt, &mut store, &mut registry, statement);
     told?;
     asked
 }
 
-// Three trucks with room for four versions, from the time 700 on, and two yards.
+// Three trucks with room for four versions, from the time 700 on.
 pub fn hour(rt: &impl Print, heap: Global) -> io::Result<()> {
-    match (Sizes::check(3, 4, 700), Sizes::check(2, 2, 0)) {
-        (Ok(trucks), Ok(yards)) => hour_of(rt, heap, trucks, yards),
-        (Err(fault), _) => show_refusal(rt, "the store of the trucks", fault),
-        (_, Err(fault)) => show_refusal(rt, "the store of the counters", fault),
+    match Sizes::check(3, 4, 700) {
+        Ok(sizes) => hour_of(rt, heap, sizes),
+        Err(fault) => show_refusal(rt, "the store of the trucks", fault),
     }
 }

@@ -7,10 +7,7 @@ pub fn show_fault(rt: &impl Print, fault: StoreFault) -> io::Result<()> {
     let number = fault.number();
     let layer = fault.layer();
     let place = fault.place;
-    println!(
-        rt,
-        "refused, number {number}, layer {layer}, place {place}"
-    )
+    println!(rt, "refused, number {number}, layer {layer}, place {place}")
 }
 
 // What was asked for, and why a store refused it.

@@ -31,7 +31,10 @@ fn show_weights(
     truck: u64,
 ) -> io::Result<()> {
     let before = read_row::<Fields, SortedList>(store, registry, statement, truck);
-    match (read_now::<Fields, SortedList>(store, registry, truck), before) {
+    match (
+        read_now::<Fields, SortedList>(store, registry, truck),
+        before,
+    ) {
         (Ok(newest), Ok(stated)) => {
             let kg = empty_weight(newest);
             let old = empty_weight(stated);
@@ -105,7 +108,10 @@ fn show_look(
     let number = writer.number();
     let mut seen = Fields::blank();
     let looked = store.look(registry, writer, truck, &mut seen);
-    match (looked, read_now::<Fields, SortedList>(store, registry, truck)) {
+    match (
+        looked,
+        read_now::<Fields, SortedList>(store, registry, truck),
+    ) {
         (Ok(_), Ok(newest)) => {
             let kg = empty_weight(seen);
             let old = empty_weight(newest);

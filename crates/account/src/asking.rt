@@ -14,7 +14,7 @@ pub struct Standing {
 }
 
 // Asks a registry the three questions.
-pub fn standing<R: Registry>(registry: &R, time: u32) -> Standing
+pub fn ask<R: Registry>(registry: &R, time: u32) -> Standing
     ensures { λ s. ⌜ s ≡ stands (R·Registry .leases (now (registry .entry))) time ⌝ }
 {
     Standing {
@@ -30,7 +30,7 @@ pub fn fill<R: Registry>(registry: &mut R, time: u32) -> u32
 {
     let mut n = 0;
     for _i in 0..R::limit() {
-        if open_at(registry, time).is_ok() {
+        if let Ok(_) = open_at(registry, time) {
             n += 1;
         }
     }
