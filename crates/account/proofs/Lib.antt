@@ -1,1 +1,4 @@
 mod Backs
+mod Chains
+mod Points
+mod Tokens

@@ -2,7 +2,9 @@
 -- loads and counter 1 tonnage.
 use mathlib.Core.List.{[], _∷_}
 use Prim.Native.Nat.{ℕ}
-use Rattle.fields.specs.Fields.{patch}
+use lib.ListN.{getD}
+use Rattle.fields.specs.Fields.{patch, fields-tells}
+use Rattle.fields.specs.declared.Attributes.{Attributes}
 use Rattle.fields.specs.declared.Patch.{Patch}
 use Rattle.tallies.specs.Tallies.{counts}
 use Rattle.tallies.specs.declared.Counts.{Counts}
@@ -15,3 +17,7 @@ axles-set n kg = patch 10 (0 ∷ n ∷ 0 ∷ kg ∷ 0 ∷ 0 ∷ 0 ∷ 0 ∷ [])
 
 abbrev pub load-added : ℕ → ℕ → Counts
 load-added loads kg = counts (loads ∷ kg ∷ 0 ∷ 0 ∷ [])
+
+-- the empty weight that a truck's row tells
+abbrev pub weight-told : Attributes → ℕ
+weight-told r = getD (fields-tells r) 3 0

@@ -1,2 +1,5 @@
 pub mod Edits
 pub mod Moments
+pub mod Leases
+pub mod Finishing
+pub mod Calls

@@ -1,6 +1,8 @@
 ghost use mathlib.Core.Path.{_≡_};
-ghost use Rattle.account.specs.Edits.{weight-set, axles-set, load-added};
+ghost use Rattle.account.specs.Edits.{weight-set, axles-set, load-added, weight-told};
+use fields::Attributes;
 use fields::Patch;
+use fields::numbers;
 use tallies::Counts;
 
 // Sets a truck's empty weight.
@@ -30,4 +32,12 @@ pub fn load(loads: u64, kg: u64) -> Counts
     Counts {
         values: [loads, kg, 0, 0],
     }
+}
+
+// The empty weight that a truck's row tells.
+pub fn empty_weight(row: Attributes) -> u32
+    ensures { λ r. ⌜ r ≡ weight-told row ⌝ }
+{
+    let told = numbers(row);
+    told[3]
 }
