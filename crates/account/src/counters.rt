@@ -7,7 +7,6 @@ use crate::edits::load;
 use crate::refusals::show_finished;
 use crate::refusals::show_refusal;
 use crate::service::show_kept;
-use kind::Kind;
 use lease::registry::Registry;
 use lease::token::Lease;
 use slot_table::SlotTable;
