@@ -1,4 +1,5 @@
 mod Backs
 mod Chains
+mod Changes
 mod Points
 mod Tokens

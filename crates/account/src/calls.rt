@@ -2,7 +2,7 @@
 ghost use mathlib.Core.Path.{_≡_};
 ghost use Rattle.lease.specs.Times.{delete};
 ghost use Rattle.store.specs.View.{view};
-ghost use Rattle.account.specs.Calls.{ReadAt};
+ghost use Rattle.account.specs.Calls.{change-each, made, refusal-of, ReadAt};
 use history::fault::StoreFault;
 use kind::Kind;
 use lease::registry::Registry;
@@ -12,7 +12,7 @@ use store::store::Store;
 
 // A record and its edit.
 #[derive(Clone, Copy)]
-pub struct Entry<E> {
+pub struct RecordEdit<E> {
     pub record: u64,
     pub edit: E,
 }
@@ -22,16 +22,20 @@ pub fn make_each<K: Kind, R: Registry>(
     store: &mut Store<K>,
     registry: &R,
     writer: &Writer,
-    entries: &[Entry<K::Edit>],
-) -> Result<(), StoreFault> {
-    for entry in entries {
-        store.change(registry, writer, entry.record, entry.edit)?;
+    edits: &[RecordEdit<K::Edit>],
+) -> Result<(), StoreFault>
+    ensures { λ r. ⌜ change-each (K·Kind .ops) (view (now (store .entry))) (R·Registry .leases (now (registry .entry))) (now (writer .entry) .number) (now (edits .entry)) ≡ made (refusal-of r) (view (now (store .exit))) ⌝ }
+{
+    for one in edits {
+        if let Err(fault) = store.change(registry, writer, one.record, one.edit) {
+            return Err(fault);
+        }
     }
     Ok(())
 }
 
 // Commits a writer, or abandons it where that is refused: its lease is gone in any case.
-pub fn end_writer<K: Kind, R: Registry>(
+pub fn commit_or_abandon<K: Kind, R: Registry>(
     store: &mut Store<K>,
     registry: &mut R,
     writer: Writer,
@@ -51,16 +55,16 @@ pub fn end_writer<K: Kind, R: Registry>(
 pub fn change_all<K: Kind, R: Registry>(
     store: &mut Store<K>,
     registry: &mut R,
-    entries: &[Entry<K::Edit>],
+    edits: &[RecordEdit<K::Edit>],
 ) -> Result<(u32, usize), StoreFault>
     ensures { λ _. ⌜ R·Registry .leases (now (registry .exit)) ≡ R·Registry .leases (now (registry .entry)) ⌝ }
 {
     let writer = store.begin(registry)?;
-    if let Err(fault) = make_each::<K, R>(store, registry, &writer, entries) {
+    if let Err(fault) = make_each::<K, R>(store, registry, &writer, edits) {
         let _freed = store.abandon(registry, writer);
         return Err(fault);
     }
-    end_writer::<K, R>(store, registry, writer)
+    commit_or_abandon::<K, R>(store, registry, writer)
 }
 
 // The row that a report reads.

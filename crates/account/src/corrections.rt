@@ -12,7 +12,6 @@ use kind::Kind;
 use lease::leasing::close_lease;
 use lease::leasing::open_lease;
 use lease::registry::Registry;
-use lease::show::LayerDisplay;
 use lease::show::RegistryFaultDisplay;
 use lease::token::Lease;
 use slot_table::SlotTable;

@@ -1,5 +1,5 @@
 // The yard manager's counters: a store of their own, with a registry of its own.
-use crate::calls::Entry;
+use crate::calls::RecordEdit;
 use crate::calls::change_all;
 use crate::calls::read_now;
 use crate::calls::read_row;
@@ -7,7 +7,6 @@ use crate::edits::load;
 use crate::refusals::show_finished;
 use crate::refusals::show_refusal;
 use crate::service::show_kept;
-use kind::Kind;
 use lease::registry::Registry;
 use lease::token::Lease;
 use slot_table::SlotTable;
@@ -52,17 +51,17 @@ fn first_loads(
     store: &mut Store<Tallies>,
     registry: &mut SlotTable,
 ) -> io::Result<()> {
-    let entries = [
-        Entry {
+    let edits = [
+        RecordEdit {
             record: 0,
             edit: load(2, 38000),
         },
-        Entry {
+        RecordEdit {
             record: 1,
             edit: load(1, 21500),
         },
     ];
-    let done = change_all::<Tallies, SlotTable>(store, registry, &entries);
+    let done = change_all::<Tallies, SlotTable>(store, registry, &edits);
     show_finished(rt, "the first loads", done)
 }
 
@@ -76,11 +75,11 @@ fn more_loads(
 ) -> io::Result<()> {
     let time = report.time();
     println!(rt, "The manager opens a report at {time}.")?;
-    let entry = Entry {
+    let edit = RecordEdit {
         record: 0,
         edit: load(3, 61000),
     };
-    let done = change_all::<Tallies, SlotTable>(store, registry, &[entry]);
+    let done = change_all::<Tallies, SlotTable>(store, registry, &[edit]);
     show_finished(rt, "more loads", done)?;
     for yard in 0..2u64 {
         show_counters(rt, store, registry, report, yard)?;

@@ -1,5 +1,5 @@
 // What the service engineer and the buyer ask of a store.
-use crate::calls::Entry;
+use crate::calls::RecordEdit;
 use crate::calls::change_all;
 use crate::edits::weight;
 use crate::refusals::show_fault;
@@ -66,17 +66,17 @@ pub fn engineer(
         show_kept(rt, store, "truck", truck)?;
     }
     kept_without_room(rt, store, 0)?;
-    let entries = [
-        Entry {
+    let edits = [
+        RecordEdit {
             record: 0,
             edit: weight(9000),
         },
-        Entry {
+        RecordEdit {
             record: 1,
             edit: weight(9000),
         },
     ];
-    let done = change_all::<Fields, SortedList>(store, registry, &entries);
+    let done = change_all::<Fields, SortedList>(store, registry, &edits);
     show_finished(rt, "a change of more trucks than there is room for", done)
 }
 

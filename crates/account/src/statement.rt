@@ -1,7 +1,7 @@
 // A statement that stays open while weights change, and a change of several trucks at once.
-use crate::calls::Entry;
+use crate::calls::RecordEdit;
 use crate::calls::change_all;
-use crate::calls::end_writer;
+use crate::calls::commit_or_abandon;
 use crate::calls::make_each;
 use crate::calls::read_now;
 use crate::calls::read_row;
@@ -55,21 +55,21 @@ pub fn first_weights(
     registry: &mut SortedList,
 ) -> io::Result<()> {
     println!(rt, "The operator weighs the trucks empty, in one change.")?;
-    let entries = [
-        Entry {
+    let edits = [
+        RecordEdit {
             record: 0,
             edit: weight(8500),
         },
-        Entry {
+        RecordEdit {
             record: 1,
             edit: weight(14200),
         },
-        Entry {
+        RecordEdit {
             record: 2,
             edit: weight(9900),
         },
     ];
-    let done = change_all::<Fields, SortedList>(store, registry, &entries);
+    let done = change_all::<Fields, SortedList>(store, registry, &edits);
     show_finished(rt, "the weighing", done)
 }
 
@@ -85,11 +85,11 @@ pub fn corrections(
         "Meanwhile a weight is corrected, corrected back, and corrected again."
     )?;
     for kg in [8700, 8500, 8800] {
-        let entry = Entry {
+        let edit = RecordEdit {
             record: 0,
             edit: weight(kg),
         };
-        let done = change_all::<Fields, SortedList>(store, registry, &[entry]);
+        let done = change_all::<Fields, SortedList>(store, registry, &[edit]);
         show_finished(rt, "the correction", done)?;
         show_weights(rt, store, registry, statement, 0)?;
         show_kept(rt, store, "truck", 0)?;
@@ -142,12 +142,12 @@ fn turned_away(
     registry: &mut SortedList,
     truck: u64,
 ) -> io::Result<()> {
-    let entry = Entry {
+    let edit = RecordEdit {
         record: truck,
         edit: weight(15000),
     };
     print!(rt, "  another writer's change of truck {truck}: ")?;
-    match change_all::<Fields, SortedList>(store, registry, &[entry]) {
+    match change_all::<Fields, SortedList>(store, registry, &[edit]) {
         Ok((clock, n)) => println!(rt, "finished at {clock}, records: {n}"),
         Err(fault) => show_fault(rt, fault),
     }
@@ -160,17 +160,17 @@ fn before_commit(
     registry: &mut SortedList,
     writer: &Writer,
 ) -> io::Result<()> {
-    let entries = [
-        Entry {
+    let edits = [
+        RecordEdit {
             record: 1,
             edit: weight(14350),
         },
-        Entry {
+        RecordEdit {
             record: 2,
             edit: axles_and_weight(3, 10050),
         },
     ];
-    if let Err(fault) = make_each::<Fields, SortedList>(store, registry, writer, &entries) {
+    if let Err(fault) = make_each::<Fields, SortedList>(store, registry, writer, &edits) {
         return show_refusal(rt, "the change", fault);
     }
     show_look(rt, store, registry, writer, 1)?;
@@ -195,7 +195,7 @@ pub fn whole_change(
         Err(fault) => return show_refusal(rt, "a writer", fault),
     };
     let told = before_commit(rt, store, registry, &writer);
-    let done = end_writer::<Fields, SortedList>(store, registry, writer);
+    let done = commit_or_abandon::<Fields, SortedList>(store, registry, writer);
     told?;
     show_finished(rt, "the change", done)?;
     show_weights(rt, store, registry, statement, 1)?;

@@ -13,4 +13,4 @@ returns-in-Err g c = let e = c .in-Continue-writer .ensures tt in given-back _ _
 
 pub returns : need.returns
 unfolding Begins
-returns g c = let e = c .in-Continue-writer .ensures tt in given-back _ _ _ _ _ (e .1 .0) (e .3) (c .end-writer .ensures)
+returns g c = let e = c .in-Continue-writer .ensures tt in given-back _ _ _ _ _ (e .1 .0) (e .3) (c .commit-or-abandon .ensures)

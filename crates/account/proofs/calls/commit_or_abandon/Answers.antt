@@ -1,7 +1,7 @@
 use mathlib.Core.Path.{_∙_}
 use Rattle.lease.specs.Times.{delete}
 use Rattle.store.specs.Calls.{Commits, Abandons}
-use Rattle.account.proofs.calls.end_writer.Needs as need
+use Rattle.account.proofs.calls.commit_or_abandon.Needs as need
 
 pub returns-in-Ok : need.returns-in-Ok
 unfolding Commits
