@@ -4,7 +4,7 @@ ghost use mathlib.Core.List.{[]};
 ghost use mathlib.Core.Bool.{cond};
 ghost use lib.ListN.{getD, set};
 ghost use Rattle.lease.specs.Times.{opens};
-ghost use Rattle.chain.specs.Versions.{reads};
+ghost use Rattle.chain.specs.Versions.{Falling, reads};
 ghost use Rattle.version_table.specs.Chains.{chains};
 ghost use Rattle.account.specs.Finishing.{finished, points};
 use chain::version::Version;
@@ -34,9 +34,9 @@ pub fn finish<K: Kind, R: Registry>(
     true
 }
 
-// The row at a time: the versions above it undone.
+// The row at a time: the versions above it undone, where the times of the chain fall.
 pub fn row_at<K: Kind>(table: &VersionTable<K::Change>, row: K::Row, time: u32) -> K::Row
-    ensures { λ r. ⌜ r ≡ reads (K·Kind .ops) row (getD (chains (now (table .entry))) 0 []) time ⌝ }
+    ensures { λ r. ⌜ (Falling (getD (chains (now (table .entry))) 0 []) → r ≡ reads (K·Kind .ops) row (getD (chains (now (table .entry))) 0 []) time) ⌝ }
 {
     let mut reached = row;
     read_back::<K>(table, 0, time, &mut reached);
@@ -45,7 +45,7 @@ pub fn row_at<K: Kind>(table: &VersionTable<K::Change>, row: K::Row, time: u32) 
 
 // From the newest row down over the open times: how often the reading differs from the one before.
 pub fn differing<K: Kind>(table: &VersionTable<K::Change>, newest: K::Row, times: &[u32]) -> usize
-    ensures { λ n. ⌜ n ≡ points (K·Kind .ops) newest (getD (chains (now (table .entry))) 0 []) newest (now (times .entry)) ⌝ }
+    ensures { λ n. ⌜ (Falling (getD (chains (now (table .entry))) 0 []) → n ≡ points (K·Kind .ops) newest (getD (chains (now (table .entry))) 0 []) newest (now (times .entry))) ⌝ }
 {
     let mut last = newest;
     let mut n = 0;

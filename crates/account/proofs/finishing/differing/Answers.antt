@@ -26,9 +26,12 @@ loop-time-again g c =
     elim (c .if-not-same .came) [
       | then-not-same w ↦ (omega (arith, w .n-is), w .n-is ∙ ap (λ v. l .n + cond {A = ℕ} v 0 1) (sym (w .if-not-same .taken)), w .last-is)
       | else-not-same w ↦ (omega (arith, w .n-is), w .n-is ∙ sym (add-zero (l .n)) ∙ ap (λ v. l .n + cond {A = ℕ} v 0 1) (sym (w .if-not-same .left)), w .last-is)
-    ] in
-    let sum = next k (c .args .newest) vs (l .last) here ts (l .time-index) (l .n) m b (c .loop-time-test .taken) (c .row-at-here .ensures) (decided k b (l .last) here (c .same .ensures)) (step .1) in
-    (omega (arith, step .0, l .inv .0), ap (λ q. m + points k (c .args .newest) vs q (drop (l .time-index + 1) ts)) (step .2) ∙ sum ∙ l .inv .1)
+    ] in (
+      omega (arith, step .0, l .inv .0),
+      λ h.
+          let sum = next k (c .args .newest) vs (l .last) here ts (l .time-index) (l .n) m b (c .loop-time-test .taken) (c .row-at-here .ensures h) (decided k b (l .last) here (c .same .ensures)) (step .1) in
+          ap (λ q. m + points k (c .args .newest) vs q (drop (l .time-index + 1) ts)) (step .2) ∙ sum ∙ l .inv .1 h,
+    )
 
 pub returns : need.returns
 returns g c =
@@ -36,4 +39,4 @@ returns g c =
     let l = c .loop-time in
     let vs = getD (chains (c .args .table .now)) 0 [] in
     let none = drop-all (l .time-index) (c .args .times .now) (c .loop-time-test .left) in
-    sym (add-zero (l .n)) ∙ ap (λ ts. l .n + points k (c .args .newest) vs (l .last) ts) (sym none) ∙ l .inv .1
+    λ h. sym (add-zero (l .n)) ∙ ap (λ ts. l .n + points k (c .args .newest) vs (l .last) ts) (sym none) ∙ l .inv .1 h
