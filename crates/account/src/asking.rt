@@ -14,7 +14,7 @@ pub struct Standing {
 
 // Asks a registry the three questions.
 pub fn ask<R: Registry>(registry: &R, time: u32) -> Standing
-    ensures { result ≡ stands (R.Registry.leases registry.now) time }
+    ensures { result ≡ stands (R.leases registry.now) time }
 {
     Standing {
         there: registry.count_at(time),
@@ -25,7 +25,7 @@ pub fn ask<R: Registry>(registry: &R, time: u32) -> Standing
 
 // Opens leases at a time until no more is accepted, and answers how many there are more.
 pub fn fill<R: Registry>(registry: &mut R, time: u32) -> u32
-    ensures { length (R.Registry.leases registry.new) ≡ length (R.Registry.leases registry.old) + result }
+    ensures { length (R.leases registry.new) ≡ length (R.leases registry.old) + result }
 {
     let mut n = 0;
     for _i in 0..R::limit() {

@@ -24,7 +24,7 @@ pub fn make_each<K: Kind, R: Registry>(
     writer: &Writer,
     edits: &[RecordEdit<K::Edit>],
 ) -> Result<(), StoreFault>
-    ensures { change_each K.Kind.ops (view store.old) (R.Registry.leases registry.now) writer.now.number edits.now ≡ made (refusal_of result) (view store.new) }
+    ensures { change_each K.ops (view store.old) (R.leases registry.now) writer.now.number edits.now ≡ made (refusal_of result) (view store.new) }
 {
     for one in edits {
         if let Err(fault) = store.change(registry, writer, one.record, one.edit) {
@@ -40,7 +40,7 @@ pub fn commit_or_abandon<K: Kind, R: Registry>(
     registry: &mut R,
     writer: Writer,
 ) -> Result<(u32, usize), StoreFault>
-    ensures { R.Registry.leases registry.new ≡ delete writer.number (R.Registry.leases registry.old) }
+    ensures { R.leases registry.new ≡ delete writer.number (R.leases registry.old) }
 {
     match store.commit(registry, writer) {
         Ok(done) => Ok(done),
@@ -57,7 +57,7 @@ pub fn change_all<K: Kind, R: Registry>(
     registry: &mut R,
     edits: &[RecordEdit<K::Edit>],
 ) -> Result<(u32, usize), StoreFault>
-    ensures { R.Registry.leases registry.new ≡ R.Registry.leases registry.old }
+    ensures { R.leases registry.new ≡ R.leases registry.old }
 {
     let writer = store.begin(registry)?;
     if let Err(fault) = make_each::<K, R>(store, registry, &writer, edits) {
@@ -74,7 +74,7 @@ pub fn read_row<K: Kind, R: Registry>(
     lease: &Lease,
     record: u64,
 ) -> Result<K::Row, StoreFault>
-    ensures { ReadAt K.Kind.ops (view store.now) (R.Registry.leases registry.now) lease.now.time «record» result }
+    ensures { ReadAt K.ops (view store.now) (R.leases registry.now) lease.now.time «record» result }
 {
     let mut row = K::blank();
     match store.read(registry, lease, record, &mut row) {
@@ -89,7 +89,7 @@ pub fn read_now<K: Kind, R: Registry>(
     registry: &mut R,
     record: u64,
 ) -> Result<K::Row, StoreFault>
-    ensures { R.Registry.leases registry.new ≡ R.Registry.leases registry.old }
+    ensures { R.leases registry.new ≡ R.leases registry.old }
 {
     let lease = store.open(registry)?;
     let row = read_row::<K, R>(store, registry, &lease, record);

@@ -20,8 +20,8 @@ pub fn finish<K: Kind, R: Registry>(
     time: u32,
     edit: K::Edit,
 ) -> bool
-    ensures row { row.new ≡ (if result then K.Kind.ops.edited row.old edit else row.old) }
-    ensures chain { chains table.new ≡ (if result then slice_set (chains table.old) 0 (finished K.Kind.ops (opens (R.Registry.leases registry.now)) row.old edit time (slice_index_or (chains table.old) 0 [])) else chains table.old) }
+    ensures row { row.new ≡ (if result then K.ops.edited row.old edit else row.old) }
+    ensures chain { chains table.new ≡ (if result then slice_set (chains table.old) 0 (finished K.ops (opens (R.leases registry.now)) row.old edit time (slice_index_or (chains table.old) 0 [])) else chains table.old) }
 {
     let (edited, change) = K::edit(*row, edit);
     if !table.push(0, Version { time, change }) {
@@ -34,7 +34,7 @@ pub fn finish<K: Kind, R: Registry>(
 
 // The row at a time: the versions above it undone, where the times of the chain fall.
 pub fn row_at<K: Kind>(table: &VersionTable<K::Change>, row: K::Row, time: u32) -> K::Row
-    ensures { Falling (slice_index_or (chains table.now) 0 []) → result ≡ reads K.Kind.ops row (slice_index_or (chains table.now) 0 []) time }
+    ensures { Falling (slice_index_or (chains table.now) 0 []) → result ≡ reads K.ops row (slice_index_or (chains table.now) 0 []) time }
 {
     let mut reached = row;
     read_back::<K>(table, 0, time, &mut reached);
@@ -43,7 +43,7 @@ pub fn row_at<K: Kind>(table: &VersionTable<K::Change>, row: K::Row, time: u32) 
 
 // From the newest row down over the open times: how often the reading differs from the one before.
 pub fn differing<K: Kind>(table: &VersionTable<K::Change>, newest: K::Row, times: &[u32]) -> usize
-    ensures { Falling (slice_index_or (chains table.now) 0 []) → result ≡ points K.Kind.ops newest (slice_index_or (chains table.now) 0 []) newest times.now }
+    ensures { Falling (slice_index_or (chains table.now) 0 []) → result ≡ points K.ops newest (slice_index_or (chains table.now) 0 []) newest times.now }
 {
     let mut last = newest;
     let mut n = 0;

@@ -21,7 +21,7 @@ pub fn edit_twice<K: Kind>(
     earlier: K::Edit,
     later: K::Edit,
 ) -> Moments<K::Row, K::Change>
-    ensures { Told K.Kind.ops first earlier later result }
+    ensures { Told K.ops first earlier later result }
 {
     let (second, older) = K::edit(first, earlier);
     let (third, newer) = K::edit(second, later);
@@ -36,8 +36,8 @@ pub fn edit_twice<K: Kind>(
 
 // Looks back over some changes, newest first: undone one by one, and joined and undone at once.
 pub fn look_back<K: Kind>(row: K::Row, changes: &[K::Change]) -> (K::Row, K::Row)
-    ensures each { result.0 ≡ undo_all K.Kind.ops row changes.now }
-    ensures at_once { K.Kind.ops.tells result.1 ≡ K.Kind.ops.tells result.0 }
+    ensures each { result.0 ≡ undo_all K.ops row changes.now }
+    ensures at_once { K.ops.tells result.1 ≡ K.ops.tells result.0 }
 {
     (undo_each::<K>(row, changes), undo_joined::<K>(row, changes))
 }

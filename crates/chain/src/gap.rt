@@ -7,7 +7,7 @@ use lease::registry::Registry;
 
 // Whether some time is open that is at least a and below b.
 pub fn open_between<R: Registry>(registry: &R, a: u32, b: u32) -> bool
-    ensures { result ≡ open_in (opens (R.Registry.leases registry.now)) a b }
+    ensures { result ≡ open_in (opens (R.leases registry.now)) a b }
 {
     match registry.least_from(a) {
         Some(m) => m < b,

@@ -12,7 +12,7 @@ use lease::registry::Registry;
 
 // Leads a row back to the time s.
 pub fn read_list<K: Kind>(row: K::Row, versions: &[Version<K::Change>], s: u32) -> K::Row
-    ensures { result ≡ reads K.Kind.ops row versions.now s }
+    ensures { result ≡ reads K.ops row versions.now s }
 {
     let mut reached = row;
     for version in versions {
@@ -29,10 +29,10 @@ pub fn prune_list<K: Kind, R: Registry>(
     row: K::Row,
     versions: &mut [Version<K::Change>],
 ) -> usize
-    ensures count { result ≡ length (prune K.Kind.ops (opens (R.Registry.leases registry.now)) row versions.old) }
-    ensures kept { take result versions.new ≡ prune K.Kind.ops (opens (R.Registry.leases registry.now)) row versions.old }
+    ensures count { result ≡ length (prune K.ops (opens (R.leases registry.now)) row versions.old) }
+    ensures kept { take result versions.new ≡ prune K.ops (opens (R.leases registry.now)) row versions.old }
     ensures rest { drop result versions.new ≡ drop result versions.old }
-    ensures law { RecordLaw K.Kind.ops }
+    ensures law { RecordLaw K.ops }
 {
     let Some(least) = registry.least_from(0) else {
         return 0;

@@ -7,12 +7,12 @@ use kind::Kind;
 
 // Whatever the calls, the model that prunes has the law.
 pub fn model_is_lawful<K: Kind>()
-    ensures { ModelLawful K.Kind.ops }
+    ensures { ModelLawful K.ops }
 {}
 
 // The law decides what is said, but for rows that tell the same, the order in Held and the times in Kept; and the history after it.
 pub fn outcomes_are_determined<K: Kind>()
-    ensures { Determined K.Kind.ops }
+    ensures { Determined K.ops }
 {}
 
 // Stores that go wrong in the usual ways are excluded, and a run that goes right is not.

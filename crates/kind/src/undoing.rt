@@ -5,7 +5,7 @@ use crate::Kind;
 
 // Edits a row and takes the edit back: the row tells what it told at first.
 pub fn there_and_back<K: Kind>(row: K::Row, edit: K::Edit) -> K::Row
-    ensures { K.Kind.ops.tells result ≡ K.Kind.ops.tells row }
+    ensures { K.ops.tells result ≡ K.ops.tells row }
 {
     let (next, change) = K::edit(row, edit);
     K::undo(next, change)
@@ -13,7 +13,7 @@ pub fn there_and_back<K: Kind>(row: K::Row, edit: K::Edit) -> K::Row
 
 // Undoes the changes one by one, newest first.
 pub fn undo_each<K: Kind>(row: K::Row, changes: &[K::Change]) -> K::Row
-    ensures { result ≡ undo_all K.Kind.ops row changes.now }
+    ensures { result ≡ undo_all K.ops row changes.now }
 {
     let mut reached = row;
     for change in changes {
@@ -24,7 +24,7 @@ pub fn undo_each<K: Kind>(row: K::Row, changes: &[K::Change]) -> K::Row
 
 // Joins the changes, newest first, and undoes the join at once: the row tells what undoing them one by one does.
 pub fn undo_joined<K: Kind>(row: K::Row, changes: &[K::Change]) -> K::Row
-    ensures { K.Kind.ops.tells result ≡ K.Kind.ops.tells (undo_all K.Kind.ops row changes.now) }
+    ensures { K.ops.tells result ≡ K.ops.tells (undo_all K.ops row changes.now) }
 {
     let mut whole = K::no_change();
     for change in changes {

@@ -9,7 +9,7 @@ use crate::token::{Lease, Writer};
 
 // Opens a report's lease at a time.
 pub fn open_lease<R: Registry>(registry: &mut R, time: u32) -> Result<Lease, RegistryFault>
-    ensures { Taken (At time) capacity leases time registry.old result registry.new }
+    ensures { Taken (At time) R.capacity R.leases time registry.old result registry.new }
 {
     open_at(registry, time)?;
     Ok(Lease::take_up(time))
@@ -17,14 +17,14 @@ pub fn open_lease<R: Registry>(registry: &mut R, time: u32) -> Result<Lease, Reg
 
 // Closes a report's lease, which is used up, also when that is refused.
 pub fn close_lease<R: Registry>(registry: &mut R, lease: Lease) -> Result<(), RegistryFault>
-    ensures { Ended leases lease.time registry.old result registry.new }
+    ensures { Ended R.leases lease.time registry.old result registry.new }
 {
     end_at(registry, lease.write_down())
 }
 
 // Opens a lease at a number, and gives it out as a writer.
 pub fn begin_writer<R: Registry>(registry: &mut R, number: u32) -> Result<Writer, RegistryFault>
-    ensures { Taken (Of number) capacity leases number registry.old result registry.new }
+    ensures { Taken (Of number) R.capacity R.leases number registry.old result registry.new }
 {
     open_at(registry, number)?;
     Ok(Writer::take_up(number))
@@ -35,7 +35,7 @@ pub fn end_writer<R: Registry>(
     registry: &mut R,
     writer: Writer,
 ) -> Result<(), (RegistryFault, Writer)>
-    ensures { GivenUp leases writer registry.old result registry.new }
+    ensures { GivenUp R.leases writer registry.old result registry.new }
 {
     match end_at(registry, writer.number()) {
         Ok(()) => {
@@ -48,7 +48,7 @@ pub fn end_writer<R: Registry>(
 
 // Ends a writer's lease if one is open, and tells whether; the writer is used up in any case.
 pub fn abandon_writer<R: Registry>(registry: &mut R, writer: Writer) -> bool
-    ensures { Abandoned leases writer.number registry.old result registry.new }
+    ensures { Abandoned R.leases writer.number registry.old result registry.new }
 {
     match end_writer(registry, writer) {
         Ok(()) => true,

@@ -19,7 +19,7 @@ pub fn refused<Row: Copy>(fault: StoreFault) -> Outcome<Row>
 }
 
 pub(crate) fn open<K: Kind, R: Registry>(store: &Store<K>, registry: &mut R) -> Outcome<K::Row>
-    ensures { Plain (step K.Kind.ops R.Registry.capacity (view store.now) (R.Registry.leases registry.old) 0 Call.Open) result (view store.now) (R.Registry.leases registry.new) }
+    ensures { Plain (step K.ops R.capacity (view store.now) (R.leases registry.old) 0 Call.Open) result (view store.now) (R.leases registry.new) }
 {
     match store.open(registry) {
         Ok(lease) => Outcome::Opened(lease.write_down()),
@@ -33,7 +33,7 @@ pub(crate) fn read<K: Kind, R: Registry>(
     t: u32,
     record: u64,
 ) -> Outcome<K::Row>
-    ensures { Plain (step K.Kind.ops R.Registry.capacity (view store.now) (R.Registry.leases registry.now) 0 (Call.Read t «record»)) result (view store.now) (R.Registry.leases registry.now) }
+    ensures { Plain (step K.ops R.capacity (view store.now) (R.leases registry.now) 0 (Call.Read t «record»)) result (view store.now) (R.leases registry.now) }
 {
     let lease = Lease::take_up(t);
     let mut row = K::blank();
@@ -50,7 +50,7 @@ pub(crate) fn close<K: Kind, R: Registry>(
     registry: &mut R,
     t: u32,
 ) -> Outcome<K::Row>
-    ensures { Plain (step K.Kind.ops R.Registry.capacity (view store.old) (R.Registry.leases registry.old) 0 (Call.Close t)) result (view store.new) (R.Registry.leases registry.new) }
+    ensures { Plain (step K.ops R.capacity (view store.old) (R.leases registry.old) 0 (Call.Close t)) result (view store.new) (R.leases registry.new) }
 {
     match store.close(registry, Lease::take_up(t)) {
         Ok(_) => Outcome::Closed,
@@ -59,7 +59,7 @@ pub(crate) fn close<K: Kind, R: Registry>(
 }
 
 pub(crate) fn begin<K: Kind, R: Registry>(store: &mut Store<K>, registry: &mut R) -> Outcome<K::Row>
-    ensures { Plain (step K.Kind.ops R.Registry.capacity (view store.old) (R.Registry.leases registry.old) 0 Call.Begin) result (view store.new) (R.Registry.leases registry.new) }
+    ensures { Plain (step K.ops R.capacity (view store.old) (R.leases registry.old) 0 Call.Begin) result (view store.new) (R.leases registry.new) }
 {
     match store.begin(registry) {
         Ok(writer) => Outcome::Began(writer.write_down()),
@@ -73,7 +73,7 @@ pub(crate) fn look<K: Kind, R: Registry>(
     w: u32,
     record: u64,
 ) -> Outcome<K::Row>
-    ensures { Plain (step K.Kind.ops R.Registry.capacity (view store.now) (R.Registry.leases registry.now) 0 (Call.Look w «record»)) result (view store.now) (R.Registry.leases registry.now) }
+    ensures { Plain (step K.ops R.capacity (view store.now) (R.leases registry.now) 0 (Call.Look w «record»)) result (view store.now) (R.leases registry.now) }
 {
     let writer = Writer::take_up(w);
     let mut row = K::blank();
@@ -92,7 +92,7 @@ pub(crate) fn change<K: Kind, R: Registry>(
     record: u64,
     edit: K::Edit,
 ) -> Outcome<K::Row>
-    ensures { Plain (step K.Kind.ops R.Registry.capacity (view store.old) (R.Registry.leases registry.now) 0 (Call.Change w «record» edit)) result (view store.new) (R.Registry.leases registry.now) }
+    ensures { Plain (step K.ops R.capacity (view store.old) (R.leases registry.now) 0 (Call.Change w «record» edit)) result (view store.new) (R.leases registry.now) }
 {
     let writer = Writer::take_up(w);
     let done = store.change(registry, &writer, record, edit);
@@ -108,7 +108,7 @@ pub(crate) fn commit<K: Kind, R: Registry>(
     registry: &mut R,
     w: u32,
 ) -> Outcome<K::Row>
-    ensures { Plain (step K.Kind.ops R.Registry.capacity (view store.old) (R.Registry.leases registry.old) 0 (Call.Commit w)) result (view store.new) (R.Registry.leases registry.new) }
+    ensures { Plain (step K.ops R.capacity (view store.old) (R.leases registry.old) 0 (Call.Commit w)) result (view store.new) (R.leases registry.new) }
 {
     match store.commit(registry, Writer::take_up(w)) {
         Ok((clock, n)) => Outcome::Committed(clock, n),
@@ -124,7 +124,7 @@ pub(crate) fn abandon<K: Kind, R: Registry>(
     registry: &mut R,
     w: u32,
 ) -> Outcome<K::Row>
-    ensures { Plain (step K.Kind.ops R.Registry.capacity (view store.old) (R.Registry.leases registry.old) 0 (Call.Abandon w)) result (view store.new) (R.Registry.leases registry.new) }
+    ensures { Plain (step K.ops R.capacity (view store.old) (R.leases registry.old) 0 (Call.Abandon w)) result (view store.new) (R.leases registry.new) }
 {
     Outcome::Abandoned(store.abandon(registry, Writer::take_up(w)))
 }
@@ -135,7 +135,7 @@ pub(crate) fn held<K: Kind, R: Registry>(
     w: u32,
     list: &mut [u32],
 ) -> Outcome<K::Row>
-    ensures { Performed (step K.Kind.ops R.Registry.capacity (view store.now) (R.Registry.leases registry.now) (length list.old) (Call.Held w)) result (view store.now) (R.Registry.leases registry.now) list.old list.new }
+    ensures { Performed (step K.ops R.capacity (view store.now) (R.leases registry.now) (length list.old) (Call.Held w)) result (view store.now) (R.leases registry.now) list.old list.new }
 {
     let writer = Writer::take_up(w);
     let done = store.held(&writer, list);
@@ -152,7 +152,7 @@ pub(crate) fn kept<K: Kind, R: Registry>(
     record: u64,
     list: &mut [u32],
 ) -> Outcome<K::Row>
-    ensures { Performed (step K.Kind.ops R.Registry.capacity (view store.now) (R.Registry.leases registry.now) (length list.old) (Call.Kept «record»)) result (view store.now) (R.Registry.leases registry.now) list.old list.new }
+    ensures { Performed (step K.ops R.capacity (view store.now) (R.leases registry.now) (length list.old) (Call.Kept «record»)) result (view store.now) (R.leases registry.now) list.old list.new }
 {
     match store.kept(record, list) {
         Ok(n) => Outcome::Kept(n),

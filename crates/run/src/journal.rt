@@ -22,9 +22,9 @@ pub fn run<K: Kind, R: Registry>(
 ) -> (Store<K>, R)
     ensures calls { calls_of journal.new ≡ calls_of journal.old }
     ensures list { (used_by journal.new ≤ length list.old) × (drop (used_by journal.new) list.new ≡ drop (used_by journal.new) list.old) }
-    ensures law { Law K.Kind.ops R.Registry.capacity (fresh_versions fresh) (fresh_records fresh) fresh.start
+    ensures law { Law K.ops R.capacity (fresh_versions fresh) (fresh_records fresh) fresh.start
         (asked_from (length list.old) journal.new) (told_from list.new journal.new)
-        (view result.0).clock (R.Registry.leases result.1) (kept_chains (view result.0).records) (in_use (view result.0).records) }
+        (view result.0).clock (R.leases result.1) (kept_chains (view result.0).records) (in_use (view result.0).records) }
 {
     let mut store = fresh.store();
     let mut registry = R::empty();

@@ -16,7 +16,7 @@ pub fn perform<K: Kind, R: Registry>(
     call: Call<K::Edit>,
     list: &mut [u32],
 ) -> Outcome<K::Row>
-    ensures { Performed (step K.Kind.ops R.Registry.capacity (view store.old) (R.Registry.leases registry.old) (length list.old) call) result (view store.new) (R.Registry.leases registry.new) list.old list.new }
+    ensures { Performed (step K.ops R.capacity (view store.old) (R.leases registry.old) (length list.old) call) result (view store.new) (R.leases registry.new) list.old list.new }
 {
     match call {
         Call::Open => answers::open(store, registry),

@@ -108,7 +108,7 @@ fn judge_time(word: Word) -> Result<u32, usize>
 
 // The call that a command makes, its words judged from left to right; else the place of the first bad one.
 pub fn call_of<K: ScriptKind>(command: Command) -> Result<Call<K::Edit>, usize>
-    ensures { result ≡ call_of_words K.ScriptKind.terms (tell command.entry) }
+    ensures { result ≡ call_of_words K.terms (tell command.entry) }
 {
     match command {
         Command::Open => Ok(Call::Open),
@@ -163,7 +163,7 @@ pub fn read_command<'a>(words: &mut Words<'a>) -> Option<Command<'a>>
 
 // The call that a line makes, or its refusal.
 pub fn read_call<K: ScriptKind>(line: &[u8], number: usize) -> Result<Call<K::Edit>, ScriptFault>
-    ensures { result ≡ line_call K.ScriptKind.terms number line.now }
+    ensures { result ≡ line_call K.terms number line.now }
 {
     let mut words = Words::new(line);
     let Some(command) = read_command(&mut words) else {

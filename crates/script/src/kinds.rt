@@ -28,10 +28,10 @@ pub trait ScriptKind: Kind {
 
     // A number of those that a row tells.
     fn number(row: Self::Row, i: usize) -> u64
-        ensures { result ≡ slice_index (Self.Kind.ops.tells row) i };
+        ensures { result ≡ slice_index (Self.ops.tells row) i };
 
     // A row tells this many numbers.
-    ghost wide: { (r : Self.Row) → length (Self.Kind.ops.tells r) ≡ terms.numbers };
+    ghost wide: { (r : Self.Row) → length (Self.ops.tells r) ≡ terms.numbers };
 }
 
 impl ScriptKind for Fields {

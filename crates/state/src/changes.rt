@@ -21,7 +21,7 @@ fn stack<K: Kind>(
     requires within { r < length (chains table.old) }
     requires room { Room holder (slice_index_or (chains table.old) r []) (sum_by length (chains table.old)) (capacity table.old) }
     ensures room { capacity table.new ≡ capacity table.old }
-    ensures stacked { chains table.new ≡ slice_set (chains table.old) r (stacked K.Kind.ops holder newest (slice_index_or (chains table.old) r [])) }
+    ensures stacked { chains table.new ≡ slice_set (chains table.old) r (stacked K.ops holder newest (slice_index_or (chains table.old) r [])) }
 {
     match holder {
         None => {
@@ -46,7 +46,7 @@ impl<K: Kind> State<K> {
     // The clock rises by one.
     pub fn tick(&mut self)
         requires { (view self.old).clock ≢ 4294967295 }
-        ensures { view self.new ≡ begun K.Kind.ops (view self.old) }
+        ensures { view self.new ≡ begun K.ops (view self.old) }
     {
         self.clock += 1;
     }
@@ -54,7 +54,7 @@ impl<K: Kind> State<K> {
     // Refuses a record that the writer may not change, or for which no version is left.
     pub fn may_change(&self, i: usize, w: u32) -> Result<(), StoreFault>
         requires { i < length (view self.now).records }
-        ensures { Owned K.Kind.ops (view self.now) w i result }
+        ensures { Owned K.ops (view self.now) w i result }
     {
         let entry = self.records[i];
         let free = match entry.holder {
@@ -88,8 +88,8 @@ impl<K: Kind> State<K> {
     // Edits the row in place. The writer's change of the record is the first of its chain.
     pub fn put(&mut self, i: usize, w: u32, edit: K::Edit)
         requires within { i < length (view self.old).records }
-        requires owned { refused_own K.Kind.ops (view self.old) w i ≡ None }
-        ensures { view self.new ≡ changed K.Kind.ops (view self.old) w i edit }
+        requires owned { refused_own K.ops (view self.old) w i ≡ None }
+        ensures { view self.new ≡ changed K.ops (view self.old) w i edit }
     {
         let entry = self.records[i];
         let (row, change) = K::edit(entry.row, edit);

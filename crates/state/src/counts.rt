@@ -32,7 +32,7 @@ impl<K: Kind> State<K> {
     // How many versions the chain of the record i has.
     pub fn versions(&self, i: usize) -> usize
         requires { i < length (view self.now).records }
-        ensures { result ≡ length (record_at K.Kind.ops (view self.now) i).chain }
+        ensures { result ≡ length (record_at K.ops (view self.now) i).chain }
     {
         let all = self.table.len(i);
         match self.records[i].holder {

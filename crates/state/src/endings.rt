@@ -33,7 +33,7 @@ fn take_back<K: Kind>(table: &mut VersionTable<K::Change>, r: usize, row: K::Row
     requires { r < length (chains table.old) }
     ensures room { capacity table.new ≡ capacity table.old }
     ensures taken { chains table.new ≡ slice_set (chains table.old) r (drop 1 (slice_index_or (chains table.old) r [])) }
-    ensures row { result ≡ taken_back K.Kind.ops row (slice_index_or (chains table.old) r []) }
+    ensures row { result ≡ taken_back K.ops row (slice_index_or (chains table.old) r []) }
 {
     match table.pop(r) {
         Some(own) => K::undo(row, own.change),
@@ -46,7 +46,7 @@ impl<K: Kind> State<K> {
     fn finish(&mut self, i: usize, w: u32, t: u32)
         requires within { i < length (view self.old).records }
         requires latest { t ≡ (view self.old).clock }
-        ensures { view self.new ≡ one_changed (finish_stored K.Kind.ops w t) i (view self.old) }
+        ensures { view self.new ≡ one_changed (finish_stored K.ops w t) i (view self.old) }
     {
         let entry = self.records[i];
         if let Some(v) = entry.holder {
@@ -64,7 +64,7 @@ impl<K: Kind> State<K> {
     // Takes the writer w's change of the record i back, if there is one.
     fn free(&mut self, i: usize, w: u32)
         requires { i < length (view self.old).records }
-        ensures { view self.new ≡ one_changed (free_stored K.Kind.ops w) i (view self.old) }
+        ensures { view self.new ≡ one_changed (free_stored K.ops w) i (view self.old) }
     {
         let entry = self.records[i];
         if let Some(v) = entry.holder {
@@ -82,7 +82,7 @@ impl<K: Kind> State<K> {
     // Finishes every change of the writer w at the time t, which is the clock.
     fn finish_all(&mut self, w: u32, t: u32)
         requires { t ≡ (view self.old).clock }
-        ensures { view self.new ≡ every K.Kind.ops (finish_stored K.Kind.ops w t) (view self.old) }
+        ensures { view self.new ≡ every K.ops (finish_stored K.ops w t) (view self.old) }
     {
         for i in 0..self.records.len() {
             self.finish(i, w, t);
@@ -91,7 +91,7 @@ impl<K: Kind> State<K> {
 
     // Takes every change of the writer w back.
     pub fn free_all(&mut self, w: u32)
-        ensures { view self.new ≡ every K.Kind.ops (free_stored K.Kind.ops w) (view self.old) }
+        ensures { view self.new ≡ every K.ops (free_stored K.ops w) (view self.old) }
     {
         for i in 0..self.records.len() {
             self.free(i, w);
@@ -101,7 +101,7 @@ impl<K: Kind> State<K> {
     // Finishes the changes of the writer w, which holds n records, one time later.
     pub fn finish_held(&mut self, w: u32, n: usize)
         requires { 0 < n → (view self.old).clock ≢ 4294967295 }
-        ensures { view self.new ≡ finished K.Kind.ops n w (view self.old) }
+        ensures { view self.new ≡ finished K.ops n w (view self.old) }
     {
         if n > 0 {
             self.clock += 1;

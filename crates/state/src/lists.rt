@@ -11,8 +11,8 @@ impl<K: Kind> State<K> {
     // Writes the times of the versions of the record i at the front of a list, the newest first, and answers how many.
     pub fn write_times(&self, i: usize, out: &mut [u32]) -> usize
         requires within { i < length (view self.now).records }
-        requires room { length (record_at K.Kind.ops (view self.now) i).chain ≤ length out.old }
-        ensures { Listed (record_at K.Kind.ops (view self.now) i).chain out.old result out.new }
+        requires room { length (record_at K.ops (view self.now) i).chain ≤ length out.old }
+        ensures { Listed (record_at K.ops (view self.now) i).chain out.old result out.new }
     {
         match self.records[i].holder {
             None => times(&self.table, i, out),

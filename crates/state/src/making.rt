@@ -57,7 +57,7 @@ impl<K: Kind> Tables<K> {
 
     // A state of blank records, finished at the start.
     pub fn start(self, start: u32) -> State<K>
-        ensures { view result ≡ new_model K.Kind.ops (table_records self) (table_versions self) start }
+        ensures { view result ≡ new_model K.ops (table_records self) (table_versions self) start }
     {
         let Tables { mut records, table } = self;
         for i in 0..records.len() {

@@ -31,7 +31,7 @@ impl<K: Kind> State<K> {
     // What the record i reads at the time t.
     pub fn reading(&self, i: usize, t: u32) -> K::Row
         requires { i < length (view self.now).records }
-        ensures { result ≡ reading K.Kind.ops (record_at K.Kind.ops (view self.now) i) t }
+        ensures { result ≡ reading K.ops (record_at K.ops (view self.now) i) t }
     {
         let entry = self.records[i];
         let mut reached = entry.row;
@@ -50,7 +50,7 @@ impl<K: Kind> State<K> {
     // What the writer w sees of the record i.
     pub fn looked(&self, i: usize, w: u32) -> K::Row
         requires { i < length (view self.now).records }
-        ensures { result ≡ looks K.Kind.ops (record_at K.Kind.ops (view self.now) i) w }
+        ensures { result ≡ looks K.ops (record_at K.ops (view self.now) i) w }
     {
         let entry = self.records[i];
         if let Some(v) = entry.holder {

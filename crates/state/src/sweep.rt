@@ -11,7 +11,7 @@ use version_table::prune::{prune_behind, prune_chain};
 impl<K: Kind> State<K> {
     // Prunes every chain.
     pub fn prune_all<R: Registry>(&mut self, registry: &R)
-        ensures { view self.new ≡ all_pruned K.Kind.ops (opens (R.Registry.leases registry.now)) (view self.old) }
+        ensures { view self.new ≡ all_pruned K.ops (opens (R.leases registry.now)) (view self.old) }
     {
         for i in 0..self.records.len() {
             let entry = self.records[i];

@@ -6,7 +6,7 @@ use lease::registry::Registry;
 
 // Refuses a time at which no lease is open, as the registry would.
 pub(crate) fn ask<R: Registry>(registry: &R, t: u32) -> Result<(), StoreFault>
-    ensures { LeaseOpen (R.Registry.leases registry.now) t result }
+    ensures { LeaseOpen (R.leases registry.now) t result }
 {
     if registry.count_at(t) == 0 {
         let fault = RegistryFault {

@@ -26,7 +26,7 @@ impl<K: Kind> Store<K> {
 
     // Writes the times of a record's versions at the front of a list, the newest first, and answers how many.
     pub fn kept(&self, record: u64, out: &mut [u32]) -> Result<usize, StoreFault>
-        ensures { Keeps K.Kind.ops (view self.now) «record» out.old result out.new }
+        ensures { Keeps K.ops (view self.now) «record» out.old result out.new }
     {
         let i = self.state.place_of(record)?;
         let needed = self.state.versions(i);

@@ -14,7 +14,7 @@ impl<K: Kind> Store<K> {
     // Ends a lease of the writer w, which holds n records, unless its commit is refused.
     fn end_lease<R: Registry>(&self, registry: &mut R, w: u32, n: usize) -> Result<(), StoreFault>
         requires { n ≡ held_number w (view self.now) }
-        ensures { Ends (view self.now) R.Registry.leases w registry.old result registry.new }
+        ensures { Ends (view self.now) R.leases w registry.old result registry.new }
     {
         let now = self.state.clock();
         if n > 0 && now == u32::MAX {
@@ -34,7 +34,7 @@ impl<K: Kind> Store<K> {
         registry: &mut R,
         writer: Writer,
     ) -> Result<(u32, usize), (StoreFault, Writer)>
-        ensures { Commits K.Kind.ops view R.Registry.leases writer self.old registry.old result self.new registry.new }
+        ensures { Commits K.ops view R.leases writer self.old registry.old result self.new registry.new }
     {
         let w = writer.number();
         let n = self.state.holds(w);
@@ -49,7 +49,7 @@ impl<K: Kind> Store<K> {
 
     // Takes a writer's changes back, prunes every chain, and answers how many records are free by that.
     pub fn abandon<R: Registry>(&mut self, registry: &mut R, writer: Writer) -> usize
-        ensures { Abandons K.Kind.ops view R.Registry.leases writer.number self.old registry.old result self.new registry.new }
+        ensures { Abandons K.ops view R.leases writer.number self.old registry.old result self.new registry.new }
     {
         let w = writer.write_down();
         let n = self.state.holds(w);

@@ -62,7 +62,7 @@ impl<K: Kind> Fresh<K> {
 
     // The new store: clock at the start, no record held, each row blank and finished at the start.
     pub fn store(self) -> Store<K>
-        ensures { view result ≡ new_model K.Kind.ops (fresh_records self) (fresh_versions self) self.start }
+        ensures { view result ≡ new_model K.ops (fresh_records self) (fresh_versions self) self.start }
     {
         Store {
             state: self.tables.start(self.start),
@@ -73,7 +73,7 @@ impl<K: Kind> Fresh<K> {
 impl<K: Kind> Store<K> {
     // Makes a new store.
     pub fn make(heap: Global, sizes: Sizes) -> Result<Store<K>, AllocError>
-        ensures { IfOk result (λ s. view s ≡ new_model K.Kind.ops sizes.records sizes.versions sizes.start) }
+        ensures { IfOk result (λ s. view s ≡ new_model K.ops sizes.records sizes.versions sizes.start) }
     {
         let fresh = Fresh::make(heap, sizes)?;
         Ok(fresh.store())

@@ -12,7 +12,7 @@ use lease::token::Lease;
 impl<K: Kind> Store<K> {
     // Opens a report: a lease at the clock.
     pub fn open<R: Registry>(&self, registry: &mut R) -> Result<Lease, StoreFault>
-        ensures { Opens R.Registry.capacity R.Registry.leases (view self.now) registry.old result registry.new }
+        ensures { Opens R.capacity R.leases (view self.now) registry.old result registry.new }
     {
         let t = self.state.clock();
         registry.add(t)?;
@@ -27,7 +27,7 @@ impl<K: Kind> Store<K> {
         record: u64,
         row: &mut K::Row,
     ) -> Result<(), StoreFault>
-        ensures { Reads K.Kind.ops (view self.now) (R.Registry.leases registry.now) lease.now.time «record» row.old result row.new }
+        ensures { Reads K.ops (view self.now) (R.leases registry.now) lease.now.time «record» row.old result row.new }
     {
         let i = self.state.place_of(record)?;
         let t = lease.time();
@@ -38,7 +38,7 @@ impl<K: Kind> Store<K> {
 
     // Closes a report, and prunes every chain. The lease is used up, also when that is refused.
     pub fn close<R: Registry>(&mut self, registry: &mut R, lease: Lease) -> Result<(), StoreFault>
-        ensures { Closes K.Kind.ops view R.Registry.leases lease.time self.old registry.old result self.new registry.new }
+        ensures { Closes K.ops view R.leases lease.time self.old registry.old result self.new registry.new }
     {
         registry.remove(lease.write_down())?;
         self.state.prune_all(registry);

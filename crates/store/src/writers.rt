@@ -12,7 +12,7 @@ use lease::token::Writer;
 impl<K: Kind> Store<K> {
     // Begins a writer, whose number is the next time.
     pub fn begin<R: Registry>(&mut self, registry: &mut R) -> Result<Writer, StoreFault>
-        ensures { Begins K.Kind.ops R.Registry.capacity view R.Registry.leases self.old registry.old result self.new registry.new }
+        ensures { Begins K.ops R.capacity view R.leases self.old registry.old result self.new registry.new }
     {
         let now = self.state.clock();
         if now == u32::MAX {
@@ -34,7 +34,7 @@ impl<K: Kind> Store<K> {
         record: u64,
         row: &mut K::Row,
     ) -> Result<(), StoreFault>
-        ensures { Looks K.Kind.ops (view self.now) (R.Registry.leases registry.now) writer.now.number «record» row.old result row.new }
+        ensures { Looks K.ops (view self.now) (R.leases registry.now) writer.now.number «record» row.old result row.new }
     {
         let i = self.state.place_of(record)?;
         let w = writer.number();
@@ -51,7 +51,7 @@ impl<K: Kind> Store<K> {
         record: u64,
         edit: K::Edit,
     ) -> Result<(), StoreFault>
-        ensures { Changes K.Kind.ops view (R.Registry.leases registry.now) writer.now.number «record» edit self.old result self.new }
+        ensures { Changes K.ops view (R.leases registry.now) writer.now.number «record» edit self.old result self.new }
     {
         let i = self.state.place_of(record)?;
         let w = writer.number();

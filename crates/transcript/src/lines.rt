@@ -27,7 +27,7 @@ fn run_line<K: ScriptKind, R: Registry>(
     number: usize,
     out: &mut String,
 ) -> fmt::Result
-    ensures { OnOk result (Behind (print_line K.Kind.ops K.ScriptKind.terms R.Registry.capacity number (view store.old) (R.Registry.leases registry.old) line.now) (string_bytes out.old) (string_bytes out.new) (view store.new) (R.Registry.leases registry.new)) }
+    ensures { OnOk result (Behind (print_line K.ops K.terms R.capacity number (view store.old) (R.leases registry.old) line.now) (string_bytes out.old) (string_bytes out.new) (view store.new) (R.leases registry.new)) }
 {
     match read_call::<K>(line, number) {
         Err(fault) => put_fault(out, fault),
@@ -47,7 +47,7 @@ pub fn run_lines<K: ScriptKind, R: Registry + Drop>(
     reader: &mut Reader,
     out: &mut String,
 ) -> Result<(), NoMemory>
-    ensures { OnOk result (string_bytes out.new ≡ string_bytes out.old ++ print_lines K.Kind.ops K.ScriptKind.terms R.Registry.capacity (reader.old.line + 1) (new_model K.Kind.ops sizes.records sizes.versions sizes.start) [] (left reader.old)) }
+    ensures { OnOk result (string_bytes out.new ≡ string_bytes out.old ++ print_lines K.ops K.terms R.capacity (reader.old.line + 1) (new_model K.ops sizes.records sizes.versions sizes.start) [] (left reader.old)) }
 {
     let mut store = Store::<K>::make(heap, sizes)?;
     let mut registry = R::empty();

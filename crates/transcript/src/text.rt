@@ -27,7 +27,7 @@ fn put_numbers(out: &mut String, numbers: &[u32]) -> fmt::Result
 
 // The numbers that a row tells, each behind a space.
 fn put_row<K: ScriptKind>(out: &mut String, row: K::Row) -> fmt::Result
-    ensures { OnOk result (string_bytes out.new ≡ string_bytes out.old ++ spaced (K.Kind.ops.tells row)) }
+    ensures { OnOk result (string_bytes out.new ≡ string_bytes out.old ++ spaced (K.ops.tells row)) }
 {
     for i in 0..K::numbers() {
         let n = K::number(row, i);
@@ -56,7 +56,7 @@ pub fn put_end(out: &mut String, used: usize, leases: u32) -> fmt::Result
 
 // A row that is shown.
 fn put_shown<K: ScriptKind>(out: &mut String, row: K::Row) -> fmt::Result
-    ensures { OnOk result (string_bytes out.new ≡ string_bytes out.old ++ (codes "row" ++ (spaced (K.Kind.ops.tells row) ++ codes "\n"))) }
+    ensures { OnOk result (string_bytes out.new ≡ string_bytes out.old ++ (codes "row" ++ (spaced (K.ops.tells row) ++ codes "\n"))) }
 {
     put(out, "row")?;
     put_row::<K>(out, row)?;
@@ -81,7 +81,7 @@ pub fn put_outcome<K: ScriptKind>(
     times: &[u32],
     line: usize,
 ) -> fmt::Result
-    ensures { OnOk result (string_bytes out.new ≡ string_bytes out.old ++ outcome_line K.Kind.ops.tells line times.now outcome) }
+    ensures { OnOk result (string_bytes out.new ≡ string_bytes out.old ++ outcome_line K.ops.tells line times.now outcome) }
 {
     match outcome {
         Outcome::Opened(time) => write!(out, "report {time}\n"),

@@ -19,8 +19,8 @@ fn apart<C: Copy, R: Registry>(
     time: u32,
     older: Option<Version<C>>,
 ) -> bool
-    requires { Some least ≡ lowest 0 (R.Registry.leases registry.now) }
-    ensures { result ≡ open_in (opens (R.Registry.leases registry.now)) (floor older) time }
+    requires { Some least ≡ lowest 0 (R.leases registry.now) }
+    ensures { result ≡ open_in (opens (R.leases registry.now)) (floor older) time }
 {
     match older {
         Some(version) => open_between(registry, version.time, time),
@@ -42,7 +42,7 @@ fn join_down<K: Kind>(
     requires next { next ≡ slice_get (slice_index_or (slots table.old.links) r []) (k + 1) }
     ensures room { capacity table.new ≡ capacity table.old }
     ensures links { slots table.new.links ≡ slice_set (slots table.old.links) r (take k (slice_index_or (slots table.old.links) r []) ++ drop (k + 1) (slice_index_or (slots table.old.links) r [])) }
-    ensures joined { chains table.new ≡ slice_set (chains table.old) r (take k (slice_index_or (chains table.old) r []) ++ absorb K.Kind.ops hand (drop (k + 1) (slice_index_or (chains table.old) r []))) }
+    ensures joined { chains table.new ≡ slice_set (chains table.old) r (take k (slice_index_or (chains table.old) r []) ++ absorb K.ops hand (drop (k + 1) (slice_index_or (chains table.old) r []))) }
 {
     if let Some(older) = table.look(r, k + 1, next) {
         let change = K::join(hand.change, older.change);
@@ -72,7 +72,7 @@ fn prune_from<K: Kind, R: Registry>(
     requires before { link ≡ before (slice_index_or (slots table.old.links) r []) start }
     requires first { first ≡ slice_get (slice_index_or (slots table.old.links) r []) start }
     ensures room { capacity table.new ≡ capacity table.old }
-    ensures pruned { chains table.new ≡ slice_set (chains table.old) r (take start (slice_index_or (chains table.old) r []) ++ prune K.Kind.ops (opens (R.Registry.leases registry.now)) row (drop start (slice_index_or (chains table.old) r []))) }
+    ensures pruned { chains table.new ≡ slice_set (chains table.old) r (take start (slice_index_or (chains table.old) r []) ++ prune K.ops (opens (R.leases registry.now)) row (drop start (slice_index_or (chains table.old) r []))) }
 {
     let Some(least) = registry.least_from(0) else {
         table.drop_from(r, start, link, first);
@@ -109,7 +109,7 @@ pub fn prune_chain<K: Kind, R: Registry>(
     row: K::Row,
 )
     ensures room { capacity table.new ≡ capacity table.old }
-    ensures pruned { chains table.new ≡ slice_set (chains table.old) r (prune K.Kind.ops (opens (R.Registry.leases registry.now)) row (slice_index_or (chains table.old) r [])) }
+    ensures pruned { chains table.new ≡ slice_set (chains table.old) r (prune K.ops (opens (R.leases registry.now)) row (slice_index_or (chains table.old) r [])) }
 {
     let first = table.links.first(r);
     prune_from::<K, R>(table, r, registry, row, 0, None, first);
@@ -123,7 +123,7 @@ pub fn prune_behind<K: Kind, R: Registry>(
     place: K::Row,
 )
     ensures room { capacity table.new ≡ capacity table.old }
-    ensures pruned { chains table.new ≡ slice_set (chains table.old) r (prune_held K.Kind.ops (opens (R.Registry.leases registry.now)) place (slice_index_or (chains table.old) r [])) }
+    ensures pruned { chains table.new ≡ slice_set (chains table.old) r (prune_held K.ops (opens (R.leases registry.now)) place (slice_index_or (chains table.old) r [])) }
 {
     let first = table.links.first(r);
     if let Some(held) = table.look(r, 0, first) {

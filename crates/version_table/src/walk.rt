@@ -10,7 +10,7 @@ use kind::Kind;
 // Leads a row back to the time t by the versions from a slot on, whose times fall: it stops at the first that is not above t.
 fn read_from<K: Kind>(table: &VersionTable<K::Change>, start: Option<u16>, t: u32, row: &mut K::Row)
     requires { Onto table.now.links start }
-    ensures { Falling (pick table.now.versions.items (from table.now.links start)) → row.new ≡ reads K.Kind.ops row.old (pick table.now.versions.items (from table.now.links start)) t }
+    ensures { Falling (pick table.now.versions.items (from table.now.links start)) → row.new ≡ reads K.ops row.old (pick table.now.versions.items (from table.now.links start)) t }
 {
     let mut at = start;
     while let Some(s) = at {
@@ -26,14 +26,14 @@ fn read_from<K: Kind>(table: &VersionTable<K::Change>, start: Option<u16>, t: u3
 
 // Leads a row back to the time t by the chain r, whose times fall.
 pub fn read_back<K: Kind>(table: &VersionTable<K::Change>, r: usize, t: u32, row: &mut K::Row)
-    ensures { Falling (slice_index_or (chains table.now) r []) → row.new ≡ reads K.Kind.ops row.old (slice_index_or (chains table.now) r []) t }
+    ensures { Falling (slice_index_or (chains table.now) r []) → row.new ≡ reads K.ops row.old (slice_index_or (chains table.now) r []) t }
 {
     read_from::<K>(table, table.links.first(r), t, row);
 }
 
 // Leads a row back to the time t by the chain r without its first version; the times behind that fall.
 pub fn read_past_first<K: Kind>(table: &VersionTable<K::Change>, r: usize, t: u32, row: &mut K::Row)
-    ensures { Falling (drop 1 (slice_index_or (chains table.now) r [])) → row.new ≡ reads K.Kind.ops row.old (drop 1 (slice_index_or (chains table.now) r [])) t }
+    ensures { Falling (drop 1 (slice_index_or (chains table.now) r [])) → row.new ≡ reads K.ops row.old (drop 1 (slice_index_or (chains table.now) r [])) t }
 {
     if let Some(s) = table.links.first(r) {
         let next = table.links.after(s);

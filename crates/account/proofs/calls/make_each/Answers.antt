@@ -9,7 +9,7 @@ use Rattle.account.proofs.calls.make_each.Goals as goal
 pub loop-one-preserved : goal.loop-one-preserved
 unfolding Changes
 loop-one-preserved g c =
-    let e = c.in-default.ensures in
+    let e = c.in_default.ensures in
     one_made g.K.Kind.ops (view c.loop-one.store) (view c.change.new.self) (g.R.Registry.leases c.args.registry.now) c.args.writer.now.number c.args.edits.now c.loop-one.one_Index c.one-item.result
     c.loop-one-test.true c.one-item.is e.0 e.1
     ∙ c.loop-one.invariant

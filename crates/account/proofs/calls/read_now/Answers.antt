@@ -3,17 +3,17 @@ use Rattle.store.specs.Calls.{Opens, Closes}
 use Rattle.account.proofs.Tokens.{given_back, still_open}
 use Rattle.account.proofs.calls.read_now.Goals as goal
 
-pub returns-in-err-lease : goal.returns-in-err-lease
+pub returns-in_err-lease : goal.returns-in_err-lease
 unfolding Opens
-returns-in-err-lease g c = ap g.R.Registry.leases c.in-err-lease.ensures.1
+returns-in_err-lease g c = ap g.R.Registry.leases c.in_err-lease.ensures.1
 
 -- the lease just opened is open, so closing it is not refused
-pub returns-in-err-close : goal.returns-in-err-close
+pub returns-in_err-close : goal.returns-in_err-close
 unfolding Opens Closes
-returns-in-err-close g c =
-    let e = c.in-ok-lease.ensures in
-    absurd (still_open _ _ _ _ _ e.1.0 e.2 c.in-err-close.ensures.0)
+returns-in_err-close g c =
+    let e = c.in_ok-lease.ensures in
+    absurd (still_open _ _ _ _ _ e.1.0 e.2 c.in_err-close.ensures.0)
 
 pub returns : goal.returns
 unfolding Opens Closes
-returns g c = let e = c.in-ok-lease.ensures in given_back _ _ _ _ _ e.1.0 e.2 c.in-ok-close.ensures.1
+returns g c = let e = c.in_ok-lease.ensures in given_back _ _ _ _ _ e.1.0 e.2 c.in_ok-close.ensures.1

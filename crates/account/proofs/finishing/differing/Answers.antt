@@ -12,7 +12,7 @@ loop-time-preserved g c =
     let k = g.K.Kind.ops in
     let vs = get_or (chains c.args.table.now) 0 [] in
     let l = c.loop-time in
-    let here = c.row-at-here.result in
+    let here = c.row_at-here.result in
     let ts = c.args.times.now in
     let m = c.if-not-same.n in
     let b = c.same.result in
@@ -23,7 +23,7 @@ loop-time-preserved g c =
     ] in (
       omega (arith, step.0, l.invariant.0),
       λ h.
-          let sum = next k c.args.newest vs l.last here ts l.time-index l.n m b c.loop-time-test.true (c.row-at-here.ensures h) (decided k b l.last here c.same.ensures) step.1 in
+          let sum = next k c.args.newest vs l.last here ts l.time-index l.n m b c.loop-time-test.true (c.row_at-here.ensures h) (decided k b l.last here c.same.ensures) step.1 in
           ap (λ q. m + points k c.args.newest vs q (drop (l.time-index + 1) ts)) step.2 ∙ sum ∙ l.invariant.1 h,
     )
 

@@ -7,18 +7,18 @@ use Rattle.chain.proofs.Times.{gap_some, none_open, ltb_yes, ltb_no}
 use Rattle.chain.proofs.Rule.{nothing}
 use Rattle.chain.proofs.InPlace.{Rest, rest_cong, keep_step, idle_step, join_step, end_keep, end_idle, end_none, kept_more}
 use Rattle.chain.proofs.Law.{record_law}
-use Rattle.chain.proofs.list.prune_list.Goals.{then-open-between+then-not-same, then-open-between+else-not-same, else-open-between}
+use Rattle.chain.proofs.list.prune_list.Goals.{then-open_between+then-not-same, then-open_between+else-not-same, else-open_between}
 use Rattle.chain.proofs.list.prune_list.Goals as goal
 
 -- the answer is the number of the kept versions
 counted : {X : Type 0} (n : ℕ) (xs ys : List X) → n ≤ length xs → take n xs ≡ ys → n ≡ length ys
 counted n xs ys h e = sym (length-take-le n xs h) ∙ ap length e
 
-pub returns-in-default : goal.returns-in-default
-returns-in-default g c =
+pub returns-in_default : goal.returns-in_default
+returns-in_default g c =
     let k = g.K.Kind.ops in
     let ls = g.R.Registry.leases c.args.registry.now in
-    let e = nothing k (opens ls) (none_open ls c.in-default.ensures) c.args.versions.now c.args.row in
+    let e = nothing k (opens ls) (none_open ls c.in_default.ensures) c.args.versions.now c.args.row in
     record { count = sym (ap length e); kept = sym e; rest = refl; law = record_law k g.K.Kind.laws }
 
 pub returns-then-n-eq0 : goal.returns-then-n-eq0
@@ -44,29 +44,29 @@ loop-i-preserved g c =
     let p = c.loop-i.hand in
     let r = c.loop-i.reached in
     let inside : i < length xs = omega (arith, c.loop-i.invariant, c.loop-i-test.true) in
-    let new = c.if-open-between in
-    let gap : open_in os x.time p.time ≡ c.open-between.result = sym c.open-between.ensures in
+    let new = c.if-open_between in
+    let gap : open_in os x.time p.time ≡ c.open_between.result = sym c.open_between.ensures in
     let next : (new.kept < i + 1) × (length xs ≡ length new.versions) × (Rest k os new.kept (i + 1) new.reached new.hand new.versions ≡ Rest k os n i r p xs) × (drop new.kept new.versions ≡ drop new.kept c.args.versions.now) =
-    elim c.if-open-between.branch [
-      | then-open-between+then-not-same w ↦ (
+    elim c.if-open_between.branch [
+      | then-open_between+then-not-same w ↦ (
         omega (arith, c.loop-i.invariant, w.kept-is),
         sym (ap length w.versions-is ∙ length-set xs n p),
         rest_cong k os (i + 1) w.kept-is w.reached-is w.hand-is w.versions-is
-            ∙ keep_step k os xs n i x p r w.undo-back.result inside c.loop-i.invariant.0 c.index-versions-i.is (gap ∙ w.if-open-between.true) w.undo-back.ensures (sym (decided k w.same.result r w.undo-back.result w.same.ensures) ∙ w.if-not-same.true),
+            ∙ keep_step k os xs n i x p r w.undo-back.result inside c.loop-i.invariant.0 c.index-versions-i.is (gap ∙ w.if-open_between.true) w.undo-back.ensures (sym (decided k w.same.result r w.undo-back.result w.same.ensures) ∙ w.if-not-same.true),
         (λ j. drop (w.kept-is j) (w.versions-is j)) ∙ kept_more xs c.args.versions.now n p c.loop-i.invariant.4 ∙ ap (λ m. drop m c.args.versions.now) (sym w.kept-is),
       )
-      | then-open-between+else-not-same w ↦ (
+      | then-open_between+else-not-same w ↦ (
         omega (arith, c.loop-i.invariant, w.kept-is),
         sym (ap length w.versions-is),
         rest_cong k os (i + 1) w.kept-is w.reached-is w.hand-is w.versions-is
-            ∙ idle_step k os xs n i x p r w.undo-back.result inside c.loop-i.invariant.0 c.index-versions-i.is (gap ∙ w.if-open-between.true) w.undo-back.ensures (sym (decided k w.same.result r w.undo-back.result w.same.ensures) ∙ w.if-not-same.false),
+            ∙ idle_step k os xs n i x p r w.undo-back.result inside c.loop-i.invariant.0 c.index-versions-i.is (gap ∙ w.if-open_between.true) w.undo-back.ensures (sym (decided k w.same.result r w.undo-back.result w.same.ensures) ∙ w.if-not-same.false),
         (λ j. drop (w.kept-is j) (w.versions-is j)) ∙ c.loop-i.invariant.4 ∙ ap (λ m. drop m c.args.versions.now) (sym w.kept-is),
       )
-      | else-open-between w ↦ (
+      | else-open_between w ↦ (
         omega (arith, c.loop-i.invariant, w.kept-is),
         sym (ap length w.versions-is),
         rest_cong k os (i + 1) w.kept-is w.reached-is (w.hand-is ∙ (λ j. record { time = p.time; change = w.join.ensures j })) w.versions-is
-            ∙ join_step k os xs n i x p r r inside c.loop-i.invariant.0 c.index-versions-i.is (gap ∙ w.if-open-between.false),
+            ∙ join_step k os xs n i x p r r inside c.loop-i.invariant.0 c.index-versions-i.is (gap ∙ w.if-open_between.false),
         (λ j. drop (w.kept-is j) (w.versions-is j)) ∙ c.loop-i.invariant.4 ∙ ap (λ m. drop m c.args.versions.now) (sym w.kept-is),
       )
     ] in

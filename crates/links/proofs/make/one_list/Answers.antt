@@ -9,7 +9,7 @@ loop-i-init c = (search rules, refl)
 
 pub loop-i-preserved : goal.loop-i-preserved
 loop-i-preserved c =
-    let p = c.in-ok-push.ensures.items in
+    let p = c.in_ok-push.ensures.items in
     let i0 = c.loop-i.invariant.0 in
     let i1 = c.loop-i.invariant.1 in
     let a = links_below_more c.loop-i.i in

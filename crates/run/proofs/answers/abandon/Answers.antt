@@ -13,7 +13,7 @@ returns g c =
     let m = view c.args.store.now in
     let ls = g.R.Registry.leases c.args.registry.now in
     let e = c.abandon.ensures in
-    let u = c.take-up.ensures.0 in
+    let u = c.take_up.ensures.0 in
     let after = e.1 ∙ ap (λ w. delete w ls) u in
     record {
       outcome = ap Abandoned (e.0 ∙ ap (λ w. held_number w m) u);

@@ -9,7 +9,7 @@ pub returns-in-Ok : goal.returns-in-Ok
 unfolding Begins
 returns-in-Ok g c =
     let e = c.in-Ok.ensures in
-    plain_ok _ (view c.args.store.now) _ (g.R.Registry.leases c.args.registry.now) _ _ _ e.0 (ap Began (c.write-down.ensures ∙ e.1.0)) e.2 e.3 refl
+    plain_ok _ (view c.args.store.now) _ (g.R.Registry.leases c.args.registry.now) _ _ _ e.0 (ap Began (c.write_down.ensures ∙ e.1.0)) e.2 e.3 refl
 
 pub returns-in-Err : goal.returns-in-Err
 unfolding Begins

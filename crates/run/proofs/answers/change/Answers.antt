@@ -12,7 +12,7 @@ returns-in-Ok g c =
     let m = view c.args.store.now in
     let ls = g.R.Registry.leases c.args.registry.now in
     let e = c.in-Ok.ensures in
-    let u = c.take-up-writer.ensures.0 in
+    let u = c.take_up-writer.ensures.0 in
     plain_ok _ m _ ls ls _ _ (ap (λ w. refused_change k m ls w c.args.record) (sym u) ∙ e.0) refl (e.1 ∙ ap (λ w. changed k m w c.args.record c.args.edit) u) refl refl
 
 pub returns-in-Err : goal.returns-in-Err
@@ -21,4 +21,4 @@ returns-in-Err g c =
     let m = view c.args.store.now in
     let ls = g.R.Registry.leases c.args.registry.now in
     let e = c.in-Err.ensures in
-    plain_no _ m _ ls ls _ _ c.in-Err.fault (ap (λ w. refused_change g.K.Kind.ops m ls w c.args.record) (sym c.take-up-writer.ensures.0) ∙ e.0) c.refused.ensures (ap view e.1) refl
+    plain_no _ m _ ls ls _ _ c.in-Err.fault (ap (λ w. refused_change g.K.Kind.ops m ls w c.args.record) (sym c.take_up-writer.ensures.0) ∙ e.0) c.refused.ensures (ap view e.1) refl

@@ -14,7 +14,7 @@ returns-in-Ok g c =
     let m = view c.args.store.now in
     let ls = g.R.Registry.leases c.args.registry.now in
     let e = c.in-Ok.ensures in
-    let u = c.take-up.ensures.0 in
+    let u = c.take_up.ensures.0 in
     let after = e.1 ∙ ap (λ w. delete w ls) u in
     let clock = e.3 ∙ ap (λ w. (committed k w m).clock) u in
     let number = e.4 ∙ ap (λ w. held_number w m) u in
@@ -26,4 +26,4 @@ returns-in-Err g c =
     let m = view c.args.store.now in
     let ls = g.R.Registry.leases c.args.registry.now in
     let e = c.in-Err.ensures in
-    plain_no _ m _ ls _ _ _ c.in-Err.fault (ap (λ w. refused_commit m ls w) (sym c.take-up.ensures.0) ∙ e.0) c.refused.ensures (ap view e.2) (ap g.R.Registry.leases e.3)
+    plain_no _ m _ ls _ _ _ c.in-Err.fault (ap (λ w. refused_commit m ls w) (sym c.take_up.ensures.0) ∙ e.0) c.refused.ensures (ap view e.2) (ap g.R.Registry.leases e.3)

@@ -11,7 +11,7 @@ unfolding Opens
 returns-in-Ok g c =
     let m = view c.args.store.now in
     let e = c.in-Ok.ensures in
-    plain_ok _ m m (g.R.Registry.leases c.args.registry.now) _ _ _ e.0 (ap Opened (c.write-down.ensures ∙ e.1.0)) refl e.2 refl
+    plain_ok _ m m (g.R.Registry.leases c.args.registry.now) _ _ _ e.0 (ap Opened (c.write_down.ensures ∙ e.1.0)) refl e.2 refl
 
 pub returns-in-Err : goal.returns-in-Err
 unfolding Opens

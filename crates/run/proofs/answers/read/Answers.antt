@@ -13,7 +13,7 @@ returns-in-Ok g c =
     let m = view c.args.store.now in
     let ls = g.R.Registry.leases c.args.registry.now in
     let e = c.in-Ok.ensures in
-    let u = c.take-up-lease.ensures.0 in
+    let u = c.take_up-lease.ensures.0 in
     plain_ok _ m m ls ls _ _ (ap (λ t. refused_read m ls t c.args.record) (sym u) ∙ e.0) (ap Shown (e.1 ∙ ap (reading k (record_at k m c.args.record)) u)) refl refl refl
 
 pub returns-in-Err : goal.returns-in-Err
@@ -22,4 +22,4 @@ returns-in-Err g c =
     let m = view c.args.store.now in
     let ls = g.R.Registry.leases c.args.registry.now in
     let e = c.in-Err.ensures in
-    plain_no _ m m ls ls _ _ c.in-Err.fault (ap (λ t. refused_read m ls t c.args.record) (sym c.take-up-lease.ensures.0) ∙ e.0) c.refused.ensures refl refl
+    plain_no _ m m ls ls _ _ c.in-Err.fault (ap (λ t. refused_read m ls t c.args.record) (sym c.take_up-lease.ensures.0) ∙ e.0) c.refused.ensures refl refl

@@ -16,17 +16,17 @@ loop-i-init g c =
     sofar_start k g.R.Registry.capacity m.room (length m.records) m.clock c.args.journal.now c.args.list.now g.K.Kind.laws m (g.R.Registry.leases c.empty-registry.result)
     (e ∙ (λ x. new_model k (sym w.0 x) (sym w.1 x) (sym w.2 x))) c.empty-registry.ensures
 
-pub offset-bounds-list-used : goal.offset-bounds-list-used
-offset-bounds-list-used g c = let h : c.loop-i.used ≤ length c.loop-i.list = omega (arith, c.loop-i.invariant.within, c.loop-i.auto.list) in search rules
+pub offset_bounds-list-used : goal.offset_bounds-list-used
+offset_bounds-list-used g c = let h : c.loop-i.used ≤ length c.loop-i.list = omega (arith, c.loop-i.invariant.within, c.loop-i.auto.list) in search rules
 
-pub slice-bounds-perform-count : goal.slice-bounds-perform-count
-slice-bounds-perform-count g c = omega (arith, c.loop-i.invariant.within, c.loop-i.auto.list)
+pub slice_bounds-perform-count : goal.slice_bounds-perform-count
+slice_bounds-perform-count g c = omega (arith, c.loop-i.invariant.within, c.loop-i.auto.list)
 
-pub slice-bounds-perform-start : goal.slice-bounds-perform-start
-slice-bounds-perform-start g c = let h : c.loop-i.used ≤ length c.loop-i.list = omega (arith, c.loop-i.invariant.within, c.loop-i.auto.list) in search rules
+pub slice_bounds-perform-start : goal.slice_bounds-perform-start
+slice_bounds-perform-start g c = let h : c.loop-i.used ≤ length c.loop-i.list = omega (arith, c.loop-i.invariant.within, c.loop-i.auto.list) in search rules
 
-pub overflow-add-used : goal.overflow-add-used
-overflow-add-used g c =
+pub overflow_add-used : goal.overflow_add-used
+overflow_add-used g c =
     let k = g.K.Kind.ops in
     let m₀ = view c.store-store.result in
     let h : c.loop-i.i < length c.loop-i.journal = omega (arith, c.loop-i-test.true, c.loop-i.auto.journal) in

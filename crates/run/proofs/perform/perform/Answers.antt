@@ -92,5 +92,5 @@ returns-in-InUse g c =
     let m = view c.args.store.now in
     let ls = g.R.Registry.leases c.args.registry.now in
     let l = c.args.list.now in
-    let P : Call g.row.K-Edit.Denot → Type 0 = λ z. Performed (step g.K.Kind.ops g.R.Registry.capacity m ls (length l) z) (InUse c.in-use.result) m ls l l in
-    subst P (sym c.in-InUse.is) (record { outcome = ap InUse c.in-use.ensures; model = refl; leases = refl; list = refl })
+    let P : Call g.row.K-Edit.Denot → Type 0 = λ z. Performed (step g.K.Kind.ops g.R.Registry.capacity m ls (length l) z) (InUse c.in_use.result) m ls l l in
+    subst P (sym c.in-InUse.is) (record { outcome = ap InUse c.in_use.ensures; model = refl; leases = refl; list = refl })

@@ -3,6 +3,6 @@ use Rattle.script.specs.Spans.{part}
 use Rattle.script.proofs.Cuts.{judged_bound}
 use Rattle.script.proofs.command.judge_time.Goals as goal
 
-pub overflow-cast-result : goal.overflow-cast-result
-overflow-cast-result c =
+pub overflow_cast-result : goal.overflow_cast-result
+overflow_cast-result c =
     let h = judged_bound 4294967295 c.in-Ok.n (part c.args.word) c.in-Ok.ensures in search rules

@@ -7,10 +7,10 @@ use Rattle.script.proofs.Cuts.{read_on_ge, number_none, number_long, number_bad,
 use Rattle.script.proofs.number.number.Goals as goal
 use Rattle.script.proofs.number.number.Goals.{then-b-lt48-via-then-b-lt48, then-b-lt48-via-else-b-lt48+then-b-gt57}
 
-pub returns-then-is-empty : goal.returns-then-is-empty
-returns-then-is-empty c =
+pub returns-then-is_empty : goal.returns-then-is_empty
+returns-then-is_empty c =
     let xs = c.args.text.now in
-    ⊎_elim (λ e. number_none xs (eqb-true (length xs) 0 (sym c.is-empty.ensures ∙ e))) (λ p. number_long xs p.1) c.then-is-empty.either
+    ⊎_elim (λ e. number_none xs (eqb-true (length xs) 0 (sym c.is_empty.ensures ∙ e))) (λ p. number_long xs p.1) c.then-is_empty.either
 
 pub returns-then-b-lt48 : goal.returns-then-b-lt48
 returns-then-b-lt48 c =
@@ -47,6 +47,6 @@ returns c =
     let i = c.loop-b.b-index in
     let d = sym c.loop-b.invariant.1 ∙ at_drop_all digits xs i c.loop-b-test.false in
     let v = sym c.loop-b.invariant.0 ∙ at_drop_all (read_on c.loop-b.n) xs i c.loop-b-test.false in
-    let full : 1 ≤ length xs = let z = eqb-false (length xs) 0 (sym c.if-is-empty.ensures) in omega arith in
+    let full : 1 ≤ length xs = let z = eqb-false (length xs) 0 (sym c.if-is_empty.ensures) in omega arith in
     let small : read_on 0 xs < 18446744073709551616 = omega (arith, v, c.loop-b.invariant.2) in
     ap (λ m. Some m) (sym v) ∙ number_good xs full c.if-text-gt20.false d small

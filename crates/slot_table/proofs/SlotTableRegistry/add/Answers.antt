@@ -3,9 +3,9 @@ use Rattle.slot_table.specs.Slots.{taken}
 use Rattle.slot_table.proofs.Filling.{length-sorted, times-set, taken_less}
 use Rattle.slot_table.proofs.SlotTableRegistry.add.Goals as goal
 
-pub returns-in-default : goal.returns-in-default
-returns-in-default c =
-    (length-sorted (taken c.args.self.now.slots) ∙ c.in-default.ensures ∙ omega arith, c.at-capacity.ensures, refl)
+pub returns-in_default : goal.returns-in_default
+returns-in_default c =
+    (length-sorted (taken c.args.self.now.slots) ∙ c.in_default.ensures ∙ omega arith, c.at_capacity.ensures, refl)
 
 pub returns : goal.returns
 returns c =

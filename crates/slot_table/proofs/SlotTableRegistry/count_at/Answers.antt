@@ -4,4 +4,4 @@ use Rattle.slot_table.proofs.Filling.{count-sorted}
 use Rattle.slot_table.proofs.SlotTableRegistry.count_at.Goals as goal
 
 pub returns : goal.returns
-returns c = c.held-at.ensures ∙ sym (count-sorted c.args.time (taken c.args.self.now.slots))
+returns c = c.held_at.ensures ∙ sym (count-sorted c.args.time (taken c.args.self.now.slots))

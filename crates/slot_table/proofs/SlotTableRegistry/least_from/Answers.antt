@@ -4,4 +4,4 @@ use Rattle.slot_table.proofs.Filling.{least-sorted}
 use Rattle.slot_table.proofs.SlotTableRegistry.least_from.Goals as goal
 
 pub returns : goal.returns
-returns c = c.least-held.ensures ∙ sym (least-sorted c.args.time (taken c.args.self.now.slots))
+returns c = c.least_held.ensures ∙ sym (least-sorted c.args.time (taken c.args.self.now.slots))

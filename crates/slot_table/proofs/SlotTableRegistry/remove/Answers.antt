@@ -3,9 +3,9 @@ use Rattle.slot_table.specs.Slots.{taken}
 use Rattle.slot_table.proofs.Filling.{count-sorted, times_clear, taken-holds}
 use Rattle.slot_table.proofs.SlotTableRegistry.remove.Goals as goal
 
-pub returns-in-default : goal.returns-in-default
-returns-in-default c =
-    (count-sorted c.args.time (taken c.args.self.now.slots) ∙ c.in-default.ensures, c.not_open.ensures, refl)
+pub returns-in_default : goal.returns-in_default
+returns-in_default c =
+    (count-sorted c.args.time (taken c.args.self.now.slots) ∙ c.in_default.ensures, c.not_open.ensures, refl)
 
 pub returns : goal.returns
 returns c =

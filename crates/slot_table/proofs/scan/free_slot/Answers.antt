@@ -4,7 +4,7 @@ use Rattle.slot_table.proofs.scan.free_slot.Goals as goal
 
 pub loop-i-preserved : goal.loop-i-preserved
 loop-i-preserved c =
-    let e = length-full c.args.slots.now c.loop-i.i c.loop-i-test.true (sym c.if-is-none.ensures) in omega arith
+    let e = length-full c.args.slots.now c.loop-i.i c.loop-i-test.true (sym c.if-is_none.ensures) in omega arith
 
 pub returns : goal.returns
 returns c =

@@ -2,16 +2,16 @@ use Rattle.std.proofs.Common.{length, ap, arith}
 use Rattle.slot_table.specs.Slots.{taken}
 use Rattle.slot_table.proofs.Filling.{taken_all, length-full, length_empty}
 use Rattle.slot_table.proofs.scan.held.Goals as goal
-use Rattle.slot_table.proofs.scan.held.Goals.{then-is-some, else-is-some}
+use Rattle.slot_table.proofs.scan.held.Goals.{then-is_some, else-is_some}
 
 pub loop-slot-preserved : goal.loop-slot-preserved
 loop-slot-preserved c =
     let xs = c.args.slots.now in
     let i = c.loop-slot.slot-index in
     let h = c.loop-slot-test.true in
-    elim c.if-is-some.branch [
-      | then-is-some w ↦ let e = length-full xs i h w.if-is-some.ensures in omega (arith, w.n-is)
-      | else-is-some w ↦ let e = length_empty xs i h w.if-is-some.ensures in omega (arith, w.n-is)
+    elim c.if-is_some.branch [
+      | then-is_some w ↦ let e = length-full xs i h w.if-is_some.ensures in omega (arith, w.n-is)
+      | else-is_some w ↦ let e = length_empty xs i h w.if-is_some.ensures in omega (arith, w.n-is)
     ]
 
 pub returns : goal.returns

@@ -3,7 +3,7 @@ use Rattle.std.proofs.lemmas.Bool.Decides.{nat_tests}
 use Rattle.lease.specs.Times.{count}
 use Rattle.slot_table.proofs.Filling.{taken_some, taken_none, taken_all}
 use Rattle.slot_table.proofs.scan.held_at.Goals as goal
-use Rattle.slot_table.proofs.scan.held_at.Goals.{in-Some+then-held-time, in-Some+else-held-time, in-default}
+use Rattle.slot_table.proofs.scan.held_at.Goals.{in-Some+then-held-time, in-Some+else-held-time, in_default}
 
 pub loop-slot-preserved : goal.loop-slot-preserved
 loop-slot-preserved c =
@@ -15,7 +15,7 @@ loop-slot-preserved c =
     elim c.match-slot.branch [
       | in-Some+then-held-time w ↦ let e = ap (count t) (taken_some xs i w.in-Some.held h w.in-Some.is) in grind (arith, nat_tests)
       | in-Some+else-held-time w ↦ let e = ap (count t) (taken_some xs i w.in-Some.held h w.in-Some.is) in grind (arith, nat_tests)
-      | in-default w ↦ let e = ap (count t) (taken_none xs i h w.in-default.is) in grind (arith, nat_tests)
+      | in_default w ↦ let e = ap (count t) (taken_none xs i h w.in_default.is) in grind (arith, nat_tests)
     ]
 
 pub returns : goal.returns

@@ -5,7 +5,7 @@ use Rattle.lease.specs.Times.{least, sooner}
 use Rattle.slot_table.proofs.Filling.{taken_some, taken_none, taken_all, least_some, first_step}
 use Rattle.lease.proofs.Bags.{sooner_assoc, sooner_none}
 use Rattle.slot_table.proofs.scan.least_held.Goals as goal
-use Rattle.slot_table.proofs.scan.least_held.Goals.{in-Some+then-time-held+in-Some-best, in-Some+then-time-held+in-None, in-Some+else-time-held, in-default}
+use Rattle.slot_table.proofs.scan.least_held.Goals.{in-Some+then-time-held+in-Some-best, in-Some+then-time-held+in-None, in-Some+else-time-held, in_default}
 
 pub loop-slot-preserved : goal.loop-slot-preserved
 loop-slot-preserved c =
@@ -23,7 +23,7 @@ loop-slot-preserved c =
       | in-Some+then-time-held+in-None w ↦
           first_step _ _ _ _ _ w.in-Some.held w.in-None.is w.best-is (least_some t xs i w.in-Some.held h w.in-Some.is w.if-time-held.true) inv
       | in-Some+else-time-held w ↦ let e = ap (least t) (taken_some xs i w.in-Some.held h w.in-Some.is) in grind (arith, nat_tests)
-      | in-default w ↦ let e = ap (least t) (taken_none xs i h w.in-default.is) in grind (arith, nat_tests)
+      | in_default w ↦ let e = ap (least t) (taken_none xs i h w.in_default.is) in grind (arith, nat_tests)
     ]
 
 pub returns : goal.returns

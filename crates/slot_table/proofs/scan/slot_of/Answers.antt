@@ -3,7 +3,7 @@ use Rattle.std.proofs.lemmas.Bool.Decides.{nat_tests}
 use Rattle.lease.specs.Times.{count}
 use Rattle.slot_table.proofs.Filling.{taken_some, taken_none, taken_all}
 use Rattle.slot_table.proofs.scan.slot_of.Goals as goal
-use Rattle.slot_table.proofs.scan.slot_of.Goals.{in-Some+else-held-time, in-default}
+use Rattle.slot_table.proofs.scan.slot_of.Goals.{in-Some+else-held-time, in_default}
 
 pub loop-i-preserved : goal.loop-i-preserved
 loop-i-preserved c =
@@ -14,7 +14,7 @@ loop-i-preserved c =
     let inv = c.loop-i.invariant in
     elim c.match-slot.branch [
       | in-Some+else-held-time w ↦ let e = ap (count t) (taken_some xs i w.in-Some.held h w.in-Some.is) in grind (arith, nat_tests)
-      | in-default w ↦ sym (ap (count t) (taken_none xs i h w.in-default.is)) ∙ inv
+      | in_default w ↦ sym (ap (count t) (taken_none xs i h w.in_default.is)) ∙ inv
     ]
 
 pub returns : goal.returns

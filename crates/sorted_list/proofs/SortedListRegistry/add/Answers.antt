@@ -11,17 +11,17 @@ pub returns-then-held-ge-CAPACITY : goal.returns-then-held-ge-CAPACITY
 returns-then-held-ge-CAPACITY c =
     let s = c.args.self.now in
     let l = length-times (take s.len s.entries) in
-    (omega (arith, s.few, c.total-held.ensures, c.if-held-ge-CAPACITY.true), c.at-capacity.ensures, refl)
+    (omega (arith, s.few, c.total-held.ensures, c.if-held-ge-CAPACITY.true), c.at_capacity.ensures, refl)
 
-pub overflow-add-self : goal.overflow-add-self
-overflow-add-self c =
+pub overflow_add-self : goal.overflow_add-self
+overflow_add-self c =
     let s = c.args.self.now in
     let f = c.in-Some.ensures in
     let b = bumped s.entries s.len c.in-Some.i c.args.time (omega (arith, s.within)) f.0 f.1 in
     omega (arith, b.held, s.few)
 
-pub invariant-of-self : goal.invariant-of-self
-invariant-of-self c =
+pub invariant_of-self : goal.invariant_of-self
+invariant_of-self c =
     let s = c.args.self.now in
     let f = c.in-Some.ensures in
     let b = bumped s.entries s.len c.in-Some.i c.args.time (omega (arith, s.within)) f.0 f.1 in
@@ -29,15 +29,15 @@ invariant-of-self c =
     let few : size (take s.len s.entries) + 1 ≤ 32 = omega (arith, c.total-held.ensures, c.if-held-ge-CAPACITY.false) in
     (s.within, (omega (arith, b.grown, few), (b.order s.ordered, tt)))
 
-pub put-in-requires : goal.put-in-requires
-put-in-requires c =
+pub put_in-requires : goal.put_in-requires
+put_in-requires c =
     let s = c.args.self.now in
     let l = length-times (take s.len s.entries) in
     let n = len_le_size s.entries s.len (omega (arith, s.within)) s.ordered in
     omega (arith, c.total-held.ensures, c.if-held-ge-CAPACITY.false)
 
-pub invariant-of-self-in-None : goal.invariant-of-self-in-None
-invariant-of-self-in-None c =
+pub invariant_of-self-in-None : goal.invariant_of-self-in-None
+invariant_of-self-in-None c =
     let s = c.args.self.now in
     let es = take s.len s.entries in
     let l = length-times es in
@@ -47,8 +47,8 @@ invariant-of-self-in-None c =
     let few : size es + 1 ≤ 32 = omega (arith, c.total-held.ensures, c.if-held-ge-CAPACITY.false) in (
       omega (arith, n, few),
       (
-        omega (arith, ap size c.put-in.ensures, size-placed e es, few),
-        (ap rising c.put-in.ensures ∙ rising-placed e es (omega arith) s.ordered a, tt),
+        omega (arith, ap size c.put_in.ensures, size-placed e es, few),
+        (ap rising c.put_in.ensures ∙ rising-placed e es (omega arith) s.ordered a, tt),
       ),
     )
 
@@ -63,5 +63,5 @@ pub returns-in-None : goal.returns-in-None
 returns-in-None c =
     let s = c.args.self.now in (
       omega (arith, c.total-held.ensures, c.if-held-ge-CAPACITY.false),
-      ap times c.put-in.ensures ∙ times-placed (record { time = c.args.time; count = 1 }) (take s.len s.entries),
+      ap times c.put_in.ensures ∙ times-placed (record { time = c.args.time; count = 1 }) (take s.len s.entries),
     )

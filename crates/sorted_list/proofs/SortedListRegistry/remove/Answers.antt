@@ -6,25 +6,25 @@ use Rattle.sorted_list.proofs.Changing.{lowered}
 use Rattle.sorted_list.proofs.Taking.{holds_mid, out_size, out_rising, out_means}
 use Rattle.sorted_list.proofs.SortedListRegistry.remove.Goals as goal
 
-pub returns-in-default : goal.returns-in-default
-returns-in-default c =
+pub returns-in_default : goal.returns-in_default
+returns-in_default c =
     let s = c.args.self.now in
-    (count-absent c.args.time (take s.len s.entries) (ap (absent c.args.time) (sym (mid_all s.entries s.len)) ∙ c.in-default.ensures), c.not_open.ensures, refl)
+    (count-absent c.args.time (take s.len s.entries) (ap (absent c.args.time) (sym (mid_all s.entries s.len)) ∙ c.in_default.ensures), c.not_open.ensures, refl)
 
-pub invariant-of-self : goal.invariant-of-self
-invariant-of-self c =
+pub invariant_of-self : goal.invariant_of-self
+invariant_of-self c =
     let s = c.args.self.now in
     let f = c.in-Some.ensures in
     let w : s.len ≤ length s.entries = omega (arith, s.within) in
     let b = lowered s.entries s.len c.in-Some.i c.args.time w f.0 f.1 c.if-old-gt-LAST.true in
     (s.within, (omega (arith, b.shrunk, s.few), (b.order s.ordered, tt)))
 
-pub invariant-of-self-else-old-gt-LAST : goal.invariant-of-self-else-old-gt-LAST
-invariant-of-self-else-old-gt-LAST c =
+pub invariant_of-self-else-old-gt-LAST : goal.invariant_of-self-else-old-gt-LAST
+invariant_of-self-else-old-gt-LAST c =
     let s = c.args.self.now in
     let es = take s.len s.entries in
     let i = c.in-Some.i in
-    let e = c.take-out.ensures in
+    let e = c.take_out.ensures in
     (omega (arith, s.within), (omega (arith, ap size e, out_size es i, s.few), (ap rising e ∙ out_rising es i s.ordered, tt)))
 
 pub returns-then-old-gt-LAST : goal.returns-then-old-gt-LAST
@@ -41,5 +41,5 @@ returns-else-old-gt-LAST c =
     let f = c.in-Some.ensures in
     let w : s.len ≤ length s.entries = omega (arith, s.within) in (
       holds_mid s.entries s.len c.in-Some.i c.args.time f.0 f.1 s.ordered,
-      ap times c.take-out.ensures ∙ out_means s.entries s.len c.in-Some.i c.args.time w f.0 f.1 c.if-old-gt-LAST.false s.ordered,
+      ap times c.take_out.ensures ∙ out_means s.entries s.len c.in-Some.i c.args.time w f.0 f.1 c.if-old-gt-LAST.false s.ordered,
     )

@@ -7,25 +7,25 @@ use Rattle.transcript.proofs.lines.run_lines.Goals as goal
 
 pub loop-line-smaller : goal.loop-line-smaller
 loop-line-smaller g c =
-    let next = line_on c.loop-line.reader c.next-line.new.self c.in-Some.line.now c.in-Some.ensures.lines in
+    let next = line_on c.loop-line.reader c.next_line.new.self c.in-Some.line.now c.in-Some.ensures.lines in
     omega (arith, ap length next)
 
 pub loop-line-preserved : goal.loop-line-preserved
 loop-line-preserved g c =
     let r = c.loop-line.reader in
-    let r' = c.next-line.new.self in
+    let r' = c.next_line.new.self in
     let next = line_on r r' c.in-Some.line.now c.in-Some.ensures.lines in
     let counted = c.in-Some.ensures.counted in
     lines_more g.K.Kind.ops g.K.ScriptKind.terms g.R.Registry.capacity (r.line + 1)
-    (view c.loop-line.store) (view c.run-line.new.store) (g.R.Registry.leases c.loop-line.registry) (g.R.Registry.leases c.run-line.new.registry)
-    (string_bytes c.loop-line.out) (string_bytes c.run-line.new.out) _
+    (view c.loop-line.store) (view c.run_line.new.store) (g.R.Registry.leases c.loop-line.registry) (g.R.Registry.leases c.run_line.new.registry)
+    (string_bytes c.loop-line.out) (string_bytes c.run_line.new.out) _
     c.line-number.result (r'.line + 1) c.in-Some.line.now (left r) (left r')
-    (c.line-number.ensures ∙ counted) (ap (λ x. x + 1) counted) next c.in-ok-run-line.ensures c.loop-line.invariant
+    (c.line-number.ensures ∙ counted) (ap (λ x. x + 1) counted) next c.in_ok-run_line.ensures c.loop-line.invariant
 
 pub returns : goal.returns
 returns g c =
     let r = c.loop-line.reader in
-    let new = c.in-ok-store.ensures in
+    let new = c.in_ok-store.ensures in
     let none = c.empty-registry.ensures in
     let from = c.args.reader.now in
     let k = g.K.Kind.ops in
@@ -33,8 +33,8 @@ returns g c =
     let n = g.R.Registry.capacity in
     lines_end k t n (r.line + 1)
     (view c.loop-line.store) (view c.loop-line.store) (g.R.Registry.leases c.loop-line.registry) (g.R.Registry.leases c.loop-line.registry)
-    (string_bytes c.loop-line.out) (string_bytes c.put-end.new.out) _
-    (left r) c.in-use.result c.total.result (no_line r c.in-default.ensures.lines) c.in-use.ensures c.total.ensures c.in-ok-put-end.ensures
+    (string_bytes c.loop-line.out) (string_bytes c.put_end.new.out) _
+    (left r) c.in_use.result c.total.result (no_line r c.in_default.ensures.lines) c.in_use.ensures c.total.ensures c.in_ok-put_end.ensures
     (c.loop-line.invariant
     ∙ ap (λ m. string_bytes c.args.out.now ++ print_lines k t n (from.line + 1) m (g.R.Registry.leases c.empty-registry.result) (left from)) new
     ∙ ap (λ ls. string_bytes c.args.out.now ++ print_lines k t n (from.line + 1) (new_model k c.args.sizes.records c.args.sizes.versions c.args.sizes.start) ls (left from)) none)

@@ -8,7 +8,7 @@ loop-i-preserved g c =
     let i = c.loop-i.i in
     let wide = g.met.K.ScriptKind.wide c.args.row in
     let within : i < length xs = omega (arith, wide, c.numbers-i-end.ensures, c.loop-i-test.true) in
-    spaced_more (string_bytes c.loop-i.out) (string_bytes c.write.new.self) (string_bytes c.args.out.now) xs i c.number-n.result within (sym c.number-n.ensures) c.in-ok-write.ensures.bytes c.loop-i.invariant
+    spaced_more (string_bytes c.loop-i.out) (string_bytes c.write.new.self) (string_bytes c.args.out.now) xs i c.number-n.result within (sym c.number-n.ensures) c.in_ok-write.ensures.bytes c.loop-i.invariant
 
 pub returns : goal.returns
 returns g c =

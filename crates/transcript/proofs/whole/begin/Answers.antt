@@ -10,5 +10,5 @@ returns c =
     let s = c.in-Ok-check.sizes in
     let r = c.args.reader.now in
     let sized = c.in-Ok-check.ensures in
-    begun c.args.first.now o r.line s.records s.versions s.start (left r) (string_bytes c.run-opened.new.out) c.in-Ok.ensures sized.0 sized.1 sized.2 sized.3 c.requires
-    (c.in-ok-run-opened.ensures ∙ ap (λ x. x ++ print_by o.kind o.registry (r.line + 1) s.records s.versions s.start (left r)) c.new-out.ensures.bytes)
+    begun c.args.first.now o r.line s.records s.versions s.start (left r) (string_bytes c.run_opened.new.out) c.in-Ok.ensures sized.0 sized.1 sized.2 sized.3 c.requires
+    (c.in_ok-run_opened.ensures ∙ ap (λ x. x ++ print_by o.kind o.registry (r.line + 1) s.records s.versions s.start (left r)) c.new-out.ensures.bytes)

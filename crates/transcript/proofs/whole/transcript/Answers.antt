@@ -9,7 +9,7 @@ returns-in-Some c =
     let e = c.new-reader.ensures in
     IfOk-weaker c.begin.result _ _
     (λ text begun. from_first c.args.script.now c.if-script-gt-LONGEST.false r.bytes.now r.at r.line e.0 e.1.0 e.1.1
-    c.in-Some.first.now c.next-line.new.self (string_bytes text) c.in-Some.ensures.lines begun)
+    c.in-Some.first.now c.next_line.new.self (string_bytes text) c.in-Some.ensures.lines begun)
     c.begin.ensures
 
 pub returns-in-None : goal.returns-in-None

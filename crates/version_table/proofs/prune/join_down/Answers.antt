@@ -7,14 +7,14 @@ use Rattle.version_table.specs.Chains.{chains, capacity}
 use Rattle.chain.specs.Pruning.{absorb}
 use Rattle.version_table.proofs.Picks.{chains-rows, list_small}
 use Rattle.version_table.proofs.Turns.{absorb_next, absorb_last, cut_again}
-use Rattle.version_table.proofs.prune.join_down.Goals.{in-Some, in-default}
+use Rattle.version_table.proofs.prune.join_down.Goals.{in-Some, in_default}
 use Rattle.version_table.proofs.prune.join_down.Goals as goal
 
-pub overflow-add-k : goal.overflow-add-k
-overflow-add-k g c = let h = list_small c.args.table.now.links c.args.r in let l = c.requires.inside in search rules
+pub overflow_add-k : goal.overflow_add-k
+overflow_add-k g c = let h = list_small c.args.table.now.links c.args.r in let l = c.requires.inside in search rules
 
-pub overflow-add-k-in-Some : goal.overflow-add-k-in-Some
-overflow-add-k-in-Some g c = let h = list_small c.args.table.now.links c.args.r in let l = c.requires.inside in search rules
+pub overflow_add-k-in-Some : goal.overflow_add-k-in-Some
+overflow_add-k-in-Some g c = let h = list_small c.args.table.now.links c.args.r in let l = c.requires.inside in search rules
 
 pub returns : goal.returns
 unfolding capacity
@@ -35,11 +35,11 @@ returns g c =
         ap chains w.table-is ∙ w.write.ensures.written,
         absorb_next k C i p w.in-Some.older (record { time = p.time; change = w.join-change.result }) (sym w.in-Some.ensures) (λ j. record { time = p.time; change = w.join-change.ensures j }),
       )
-      | in-default w ↦ (
+      | in_default w ↦ (
         C,
         ap (λ x. x.links) w.table-is,
         ap chains w.table-is ∙ sym (set-get_or (chains t) r []),
-        absorb_last k C i p (sym w.in-default.ensures),
+        absorb_last k C i p (sym w.in_default.ensures),
       )
     ] in
     let row : r < length (chains t) = omega (arith, chains-rows t, row_in_range (slots t.links) r i c.requires.inside) in

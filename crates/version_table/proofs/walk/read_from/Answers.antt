@@ -38,4 +38,4 @@ returns-then-version-t g c =
 pub returns : goal.returns
 returns g c =
     let k = g.K.Kind.ops in
-    λ h. sym (ap (λ vs. reads k c.loop-at.row vs c.args.t) (cursor_end c.args.table.now c.loop-at.at c.in-default.is)) ∙ (c.loop-at.invariant.1 h).1
+    λ h. sym (ap (λ vs. reads k c.loop-at.row vs c.args.t) (cursor_end c.args.table.now c.loop-at.at c.in_default.is)) ∙ (c.loop-at.invariant.1 h).1

@@ -11,14 +11,14 @@ below g c =
     let k = ap length (cursor c.args.table.now c.in-Some.s c.loop-at.at c.after-next.result c.index-version.result.now c.in-Some.is c.after-next.ensures.list c.after-next.ensures.inside c.index-version.ensures) in
     omega (arith, k, c.requires.room, c.loop-at.invariant.3, c.loop-at.auto.out)
 
-pub offset-bounds-out-n : goal.offset-bounds-out-n
-offset-bounds-out-n g c = let h = below g c in search rules
+pub offset_bounds-out-n : goal.offset_bounds-out-n
+offset_bounds-out-n g c = let h = below g c in search rules
 
 pub bounds-out-n : goal.bounds-out-n
 bounds-out-n g c = below g c
 
-pub overflow-add-n : goal.overflow-add-n
-overflow-add-n g c = let h = below g c in search rules
+pub overflow_add-n : goal.overflow_add-n
+overflow_add-n g c = let h = below g c in search rules
 
 pub loop-at-preserved : goal.loop-at-preserved
 loop-at-preserved g c =
@@ -37,7 +37,7 @@ returns g c =
     let vs = c.args.table.now.versions.items in
     let f : Version g.row.C.Denot → ℕ = λ v. v.time in
     let i = c.loop-at.invariant in
-    let e = cursor_end c.args.table.now c.loop-at.at c.in-default.is in (
+    let e = cursor_end c.args.table.now c.loop-at.at c.in_default.is in (
       omega (arith, i.3, ap length e),
       written_all f (take c.loop-at.n c.loop-at.out) (pick vs (from c.args.table.now.links c.loop-at.at)) (map f (pick vs (from c.args.table.now.links c.args.start))) i.1 e,
       i.2,

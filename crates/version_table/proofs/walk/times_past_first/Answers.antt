@@ -5,15 +5,15 @@ use Rattle.links.proofs.Ways.{from_none}
 use Rattle.version_table.proofs.Picks.{chain_is, chain_tail, pick-nil}
 use Rattle.version_table.proofs.walk.times_past_first.Goals as goal
 
-pub times-from-requires : goal.times-from-requires
-times-from-requires g c =
+pub times_from-requires : goal.times_from-requires
+times_from-requires g c =
     let e = chain_tail c.args.table.now c.args.r c.in-Some.s c.after-next.result c.in-Some.ensures.list c.after-next.ensures.list c.after-next.ensures.inside in
     record { onto = c.after-next.ensures.onto; room = omega (arith, ap length e, c.requires) }
 
 pub returns-in-Some : goal.returns-in-Some
 returns-in-Some g c =
     let e = chain_tail c.args.table.now c.args.r c.in-Some.s c.after-next.result c.in-Some.ensures.list c.after-next.ensures.list c.after-next.ensures.inside in
-    subst (λ (vs : List (Version g.row.C.Denot)). Listed vs c.args.out.now c.times-from.result c.times-from.new.out) e c.times-from.ensures
+    subst (λ (vs : List (Version g.row.C.Denot)). Listed vs c.args.out.now c.times_from.result c.times_from.new.out) e c.times_from.ensures
 
 pub returns-in-None : goal.returns-in-None
 returns-in-None g c =

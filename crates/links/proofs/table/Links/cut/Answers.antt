@@ -3,11 +3,11 @@ use Rattle.links.specs.Meaning.{slots, size}
 use Rattle.links.proofs.Places.{nth_inside, slice_get-get_or, row_in_range, at_front, behind, front_cut, later_cut}
 use Rattle.links.proofs.table.Links.cut.Goals as goal
 
-pub overflow-sub-k : goal.overflow-sub-k
-overflow-sub-k c = omega (arith, (behind (get_or (slots c.args.self.now) c.args.r []) c.args.k c.in-Some.p c.args.link c.requires.before c.in-Some.is).0)
+pub overflow_sub-k : goal.overflow_sub-k
+overflow_sub-k c = omega (arith, (behind (get_or (slots c.args.self.now) c.args.r []) c.args.k c.in-Some.p c.args.link c.requires.before c.in-Some.is).0)
 
-pub cut-after-cut-requires : goal.cut-after-cut-requires
-cut-after-cut-requires c =
+pub cut_after-cut-requires : goal.cut_after-cut-requires
+cut_after-cut-requires c =
     let L = get_or (slots c.args.self.now) c.args.r [] in
     let b = behind L c.args.k c.in-Some.p c.args.link c.requires.before c.in-Some.is in
     record {
@@ -28,6 +28,6 @@ returns-in-Some c =
     let L = get_or (slots c.args.self.now) c.args.r [] in
     let b = behind L c.args.k c.in-Some.p c.args.link c.requires.before c.in-Some.is in
     record {
-      size = c.cut-after-cut.ensures.size;
-      cut = later_cut (slots c.args.self.now) (slots c.cut-after-cut.new.self) c.args.r c.args.k (c.args.k - 1) L c.cut-after-cut.result (size c.args.self.now) b.0 c.requires.inside c.cut-after-cut.ensures.cut;
+      size = c.cut_after-cut.ensures.size;
+      cut = later_cut (slots c.args.self.now) (slots c.cut_after-cut.new.self) c.args.r c.args.k (c.args.k - 1) L c.cut_after-cut.result (size c.args.self.now) b.0 c.requires.inside c.cut_after-cut.ensures.cut;
     }

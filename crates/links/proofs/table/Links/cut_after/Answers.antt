@@ -14,17 +14,17 @@ returns-in-None c = record { size = refl; cut = (refl, last c.args.self.now c.ar
 pub index-t-requires : goal.index-t-requires
 index-t-requires c = omega (arith, (cut_in c.args.self.now c.args.r c.args.k c.args.p c.in-Some.s c.requires.row c.requires.place.0 c.requires.place.1 c.index.result.now c.index.ensures c.in-Some.is).inside, c.args.self.now.next.ok.0)
 
-pub index-mut-requires : goal.index-mut-requires
-index-mut-requires c = omega (arith, (place c.args.self.now c.args.r c.args.k c.args.p c.requires.row c.requires.place.0 c.requires.place.1).0, c.args.self.now.next.ok.0)
+pub index_mut-requires : goal.index_mut-requires
+index_mut-requires c = omega (arith, (place c.args.self.now c.args.r c.args.k c.args.p c.requires.row c.requires.place.0 c.requires.place.1).0, c.args.self.now.next.ok.0)
 
-pub index-mut-requires-in-Some : goal.index-mut-requires-in-Some
-index-mut-requires-in-Some c = omega (arith, (cut_in c.args.self.now c.args.r c.args.k c.args.p c.in-Some.s c.requires.row c.requires.place.0 c.requires.place.1 c.index.result.now c.index.ensures c.in-Some.is).inside, c.args.self.now.next.ok.0)
+pub index_mut-requires-in-Some : goal.index_mut-requires-in-Some
+index_mut-requires-in-Some c = omega (arith, (cut_in c.args.self.now c.args.r c.args.k c.args.p c.in-Some.s c.requires.row c.requires.place.0 c.requires.place.1 c.index.result.now c.index.ensures c.in-Some.is).inside, c.args.self.now.next.ok.0)
 
-pub overflow-sub-self : goal.overflow-sub-self
-overflow-sub-self c = (cut_in c.args.self.now c.args.r c.args.k c.args.p c.in-Some.s c.requires.row c.requires.place.0 c.requires.place.1 c.index.result.now c.index.ensures c.in-Some.is).some
+pub overflow_sub-self : goal.overflow_sub-self
+overflow_sub-self c = (cut_in c.args.self.now c.args.r c.args.k c.args.p c.in-Some.s c.requires.row c.requires.place.0 c.requires.place.1 c.index.result.now c.index.ensures c.in-Some.is).some
 
-pub invariant-of-self : goal.invariant-of-self
-invariant-of-self c = let k = cut_read c.args.self.now c.args.r c.args.k c.args.p c.in-Some.s c.requires.row c.requires.place.0 c.requires.place.1 c.index.result.now c.index-t.result.now c.index.ensures c.in-Some.is c.index-t.ensures in (k.sound, (k.counted, tt))
+pub invariant_of-self : goal.invariant_of-self
+invariant_of-self c = let k = cut_read c.args.self.now c.args.r c.args.k c.args.p c.in-Some.s c.requires.row c.requires.place.0 c.requires.place.1 c.index.result.now c.index-t.result.now c.index.ensures c.in-Some.is c.index-t.ensures in (k.sound, (k.counted, tt))
 
 pub returns-in-Some : goal.returns-in-Some
 unfolding slots size

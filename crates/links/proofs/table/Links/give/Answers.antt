@@ -9,17 +9,17 @@ use Rattle.links.proofs.table.Links.give.Goals as goal
 pub index-requires : goal.index-requires
 index-requires c = let f = front c.args.self.now c.args.r c.in-Some.s c.in-Some.ensures.head in omega (arith, (give_in c.args.self.now c.args.r c.in-Some.s f.row f.head).inside, c.args.self.now.next.ok.0)
 
-pub index-mut-requires : goal.index-mut-requires
-index-mut-requires c = let f = front c.args.self.now c.args.r c.in-Some.s c.in-Some.ensures.head in omega (arith, row_in c.args.self.now c.args.r f.row, c.args.self.now.heads.ok.0)
+pub index_mut-requires : goal.index_mut-requires
+index_mut-requires c = let f = front c.args.self.now c.args.r c.in-Some.s c.in-Some.ensures.head in omega (arith, row_in c.args.self.now c.args.r f.row, c.args.self.now.heads.ok.0)
 
-pub index-mut-requires-in-Some : goal.index-mut-requires-in-Some
-index-mut-requires-in-Some c = let f = front c.args.self.now c.args.r c.in-Some.s c.in-Some.ensures.head in omega (arith, (give_in c.args.self.now c.args.r c.in-Some.s f.row f.head).inside, c.args.self.now.next.ok.0)
+pub index_mut-requires-in-Some : goal.index_mut-requires-in-Some
+index_mut-requires-in-Some c = let f = front c.args.self.now c.args.r c.in-Some.s c.in-Some.ensures.head in omega (arith, (give_in c.args.self.now c.args.r c.in-Some.s f.row f.head).inside, c.args.self.now.next.ok.0)
 
-pub overflow-sub-self : goal.overflow-sub-self
-overflow-sub-self c = let f = front c.args.self.now c.args.r c.in-Some.s c.in-Some.ensures.head in (give_in c.args.self.now c.args.r c.in-Some.s f.row f.head).some
+pub overflow_sub-self : goal.overflow_sub-self
+overflow_sub-self c = let f = front c.args.self.now c.args.r c.in-Some.s c.in-Some.ensures.head in (give_in c.args.self.now c.args.r c.in-Some.s f.row f.head).some
 
-pub invariant-of-self : goal.invariant-of-self
-invariant-of-self c =
+pub invariant_of-self : goal.invariant_of-self
+invariant_of-self c =
     let f = front c.args.self.now c.args.r c.in-Some.s c.in-Some.ensures.head in
     let k = give_read c.args.self.now c.args.r c.in-Some.s c.index.result.now f.row f.head c.index.ensures in
     (k.sound, (k.counted, tt))

@@ -15,14 +15,14 @@ index-requires c = omega (arith, (take_in c.args.self.now c.args.r c.in-Some.s (
 pub index-head-requires : goal.index-head-requires
 index-head-requires c = omega (arith, row_in c.args.self.now c.args.r (row c.args.self.now c.len.result c.args.r c.len.ensures c.if-len-r.false), c.args.self.now.heads.ok.0)
 
-pub index-mut-requires : goal.index-mut-requires
-index-mut-requires c = omega (arith, (take_in c.args.self.now c.args.r c.in-Some.s (row c.args.self.now c.len.result c.args.r c.len.ensures c.if-len-r.false) c.in-Some.is).inside, c.args.self.now.next.ok.0)
+pub index_mut-requires : goal.index_mut-requires
+index_mut-requires c = omega (arith, (take_in c.args.self.now c.args.r c.in-Some.s (row c.args.self.now c.len.result c.args.r c.len.ensures c.if-len-r.false) c.in-Some.is).inside, c.args.self.now.next.ok.0)
 
-pub index-mut-requires-in-Some : goal.index-mut-requires-in-Some
-index-mut-requires-in-Some c = omega (arith, row_in c.args.self.now c.args.r (row c.args.self.now c.len.result c.args.r c.len.ensures c.if-len-r.false), c.args.self.now.heads.ok.0)
+pub index_mut-requires-in-Some : goal.index_mut-requires-in-Some
+index_mut-requires-in-Some c = omega (arith, row_in c.args.self.now c.args.r (row c.args.self.now c.len.result c.args.r c.len.ensures c.if-len-r.false), c.args.self.now.heads.ok.0)
 
-pub invariant-of-self : goal.invariant-of-self
-invariant-of-self c =
+pub invariant_of-self : goal.invariant_of-self
+invariant_of-self c =
     let k = take_read c.args.self.now c.args.r c.in-Some.s c.index.result.now c.index-head.result.now (row c.args.self.now c.len.result c.args.r c.len.ensures c.if-len-r.false) c.in-Some.is c.index.ensures c.index-head.ensures in
     (k.sound, (k.counted, tt))
 

@@ -13,15 +13,15 @@ use Rattle.state.proofs.state.State.finish.Goals as goal
 pub index-entry-requires : goal.index-entry-requires
 index-entry-requires g c = omega (arith, in_records c.args.self.now c.args.i c.requires.within, c.args.self.now.records.ok.0)
 
-pub index-mut-requires : goal.index-mut-requires
-index-mut-requires g c = omega (arith, in_records c.args.self.now c.args.i c.requires.within, c.args.self.now.records.ok.0)
+pub index_mut-requires : goal.index_mut-requires
+index_mut-requires g c = omega (arith, in_records c.args.self.now c.args.i c.requires.within, c.args.self.now.records.ok.0)
 
 pub stamp-requires : goal.stamp-requires
 stamp-requires g c = in_table c.args.self.now c.args.i c.requires.within
 
-pub invariant-of-self : goal.invariant-of-self
+pub invariant_of-self : goal.invariant_of-self
 unfolding view
-invariant-of-self g c =
+invariant_of-self g c =
     let k = g.K.Kind.ops in
     let s = c.args.self.now in
     let i = c.args.i in
@@ -62,8 +62,8 @@ returns-else-v-w g c =
     let L = get_or (chains s.table) i [] in
     unwritten (finish_stored k w t) s i x (new_stored k 0) c.requires.within c.index-entry.ensures (finish_other k w t x L (not_by w c.in-Some.v x.holder L c.in-Some.is c.if-v-w.false))
 
-pub returns-in-default : goal.returns-in-default
-returns-in-default g c =
+pub returns-in_default : goal.returns-in_default
+returns-in_default g c =
     let k = g.K.Kind.ops in
     let s = c.args.self.now in
     let i = c.args.i in
@@ -71,4 +71,4 @@ returns-in-default g c =
     let t = c.args.t in
     let x = c.index-entry.result.now in
     let L = get_or (chains s.table) i [] in
-    unwritten (finish_stored k w t) s i x (new_stored k 0) c.requires.within c.index-entry.ensures (finish_other k w t x L (not_by_none w x.holder L c.in-default.is))
+    unwritten (finish_stored k w t) s i x (new_stored k 0) c.requires.within c.index-entry.ensures (finish_other k w t x L (not_by_none w x.holder L c.in_default.is))

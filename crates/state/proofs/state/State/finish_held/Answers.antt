@@ -7,23 +7,23 @@ use Rattle.history.specs.Model.{every, finish_stored}
 use Rattle.std.proofs.lemmas.Bool.{lt-ltb}
 use Rattle.state.proofs.state.State.finish_held.Goals as goal
 
-pub overflow-add-self : goal.overflow-add-self
+pub overflow_add-self : goal.overflow_add-self
 unfolding view
-overflow-add-self g c = let h : c.args.self.now.clock ≡ 4294967295 → ⊥ = c.requires c.if-n-gt0.true in search rules
+overflow_add-self g c = let h : c.args.self.now.clock ≡ 4294967295 → ⊥ = c.requires c.if-n-gt0.true in search rules
 
-pub invariant-of-self : goal.invariant-of-self
-invariant-of-self g c =
+pub invariant_of-self : goal.invariant_of-self
+invariant_of-self g c =
     let s = c.args.self.now in
     (s.sound, (all_mono s.clock (s.clock + 1) (viewed (vec_items s.records) (chains s.table)) (omega arith) s.falling, (s.few, tt)))
 
-pub finish-all-requires : goal.finish-all-requires
+pub finish_all-requires : goal.finish_all-requires
 unfolding view
-finish-all-requires g c = refl
+finish_all-requires g c = refl
 
 pub returns-then-n-gt0 : goal.returns-then-n-gt0
 unfolding view
 returns-then-n-gt0 g c =
     let k = g.K.Kind.ops in
     let m = view c.args.self.now in
-    c.finish-all.ensures
+    c.finish_all.ensures
     ∙ ap (λ b. cond b (record { clock = m.clock + 1; room = m.room; records = (every k (finish_stored k c.args.w (m.clock + 1)) m).records }) m) (sym (lt-ltb 0 c.args.n c.if-n-gt0.true))

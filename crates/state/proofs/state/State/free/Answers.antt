@@ -12,14 +12,14 @@ use Rattle.state.proofs.state.State.free.Goals as goal
 pub index-entry-requires : goal.index-entry-requires
 index-entry-requires g c = omega (arith, in_records c.args.self.now c.args.i c.requires, c.args.self.now.records.ok.0)
 
-pub index-mut-requires : goal.index-mut-requires
-index-mut-requires g c = omega (arith, in_records c.args.self.now c.args.i c.requires, c.args.self.now.records.ok.0)
+pub index_mut-requires : goal.index_mut-requires
+index_mut-requires g c = omega (arith, in_records c.args.self.now c.args.i c.requires, c.args.self.now.records.ok.0)
 
-pub take-back-row-requires : goal.take-back-row-requires
-take-back-row-requires g c = in_table c.args.self.now c.args.i c.requires
+pub take_back-row-requires : goal.take_back-row-requires
+take_back-row-requires g c = in_table c.args.self.now c.args.i c.requires
 
-pub invariant-of-self : goal.invariant-of-self
-invariant-of-self g c =
+pub invariant_of-self : goal.invariant_of-self
+invariant_of-self g c =
     let k = g.K.Kind.ops in
     let s = c.args.self.now in
     let i = c.args.i in
@@ -27,8 +27,8 @@ invariant-of-self g c =
     let x = c.index-entry.result.now in
     let L = get_or (chains s.table) i [] in
     let b = there (free_stored k w) s i x c.requires c.index-entry.ensures in
-    let v = write_view (free_stored k w) s i x (record { row = c.take-back-row.result; last = x.last; holder = None }) (drop 1 L) c.take-back-row.new.table c.requires c.index-entry.ensures c.take-back-row.ensures.taken (ap (λ q. stored (record { row = q; last = x.last; holder = None }) (drop 1 L)) c.take-back-row.ensures.row ∙ free_one k w x c.in-Some.v L c.in-Some.is c.if-v-w.true b) in (
-      write_sound (free_stored k w) s i x (record { row = c.take-back-row.result; last = x.last; holder = None }) (drop 1 L) c.take-back-row.new.table c.requires c.index-entry.ensures c.take-back-row.ensures.taken refl,
+    let v = write_view (free_stored k w) s i x (record { row = c.take_back-row.result; last = x.last; holder = None }) (drop 1 L) c.take_back-row.new.table c.requires c.index-entry.ensures c.take_back-row.ensures.taken (ap (λ q. stored (record { row = q; last = x.last; holder = None }) (drop 1 L)) c.take_back-row.ensures.row ∙ free_one k w x c.in-Some.v L c.in-Some.is c.if-v-w.true b) in (
+      write_sound (free_stored k w) s i x (record { row = c.take_back-row.result; last = x.last; holder = None }) (drop 1 L) c.take_back-row.new.table c.requires c.index-entry.ensures c.take_back-row.ensures.taken refl,
       (ap (all_fall s.clock) v ∙ all_changed s.clock (free_stored k w) (free_keeps k s.clock w) (viewed (vec_items s.records) (chains s.table)) i s.falling, (ap (λ n. leb n 4096) (length-set (vec_items s.records) i _) ∙ s.few, tt)),
     )
 
@@ -42,8 +42,8 @@ returns-then-v-w g c =
     let x = c.index-entry.result.now in
     let L = get_or (chains s.table) i [] in
     let b = there (free_stored k w) s i x c.requires c.index-entry.ensures in
-    let v = write_view (free_stored k w) s i x (record { row = c.take-back-row.result; last = x.last; holder = None }) (drop 1 L) c.take-back-row.new.table c.requires c.index-entry.ensures c.take-back-row.ensures.taken (ap (λ q. stored (record { row = q; last = x.last; holder = None }) (drop 1 L)) c.take-back-row.ensures.row ∙ free_one k w x c.in-Some.v L c.in-Some.is c.if-v-w.true b) in
-    λ j. record { clock = s.clock; room = c.take-back-row.ensures.room j; records = v j }
+    let v = write_view (free_stored k w) s i x (record { row = c.take_back-row.result; last = x.last; holder = None }) (drop 1 L) c.take_back-row.new.table c.requires c.index-entry.ensures c.take_back-row.ensures.taken (ap (λ q. stored (record { row = q; last = x.last; holder = None }) (drop 1 L)) c.take_back-row.ensures.row ∙ free_one k w x c.in-Some.v L c.in-Some.is c.if-v-w.true b) in
+    λ j. record { clock = s.clock; room = c.take_back-row.ensures.room j; records = v j }
 
 pub returns-else-v-w : goal.returns-else-v-w
 returns-else-v-w g c =
@@ -55,12 +55,12 @@ returns-else-v-w g c =
     let L = get_or (chains s.table) i [] in
     unwritten (free_stored k w) s i x (new_stored k 0) c.requires c.index-entry.ensures (free_other k w x L (not_by w c.in-Some.v x.holder L c.in-Some.is c.if-v-w.false))
 
-pub returns-in-default : goal.returns-in-default
-returns-in-default g c =
+pub returns-in_default : goal.returns-in_default
+returns-in_default g c =
     let k = g.K.Kind.ops in
     let s = c.args.self.now in
     let i = c.args.i in
     let w = c.args.w in
     let x = c.index-entry.result.now in
     let L = get_or (chains s.table) i [] in
-    unwritten (free_stored k w) s i x (new_stored k 0) c.requires c.index-entry.ensures (free_other k w x L (not_by_none w x.holder L c.in-default.is))
+    unwritten (free_stored k w) s i x (new_stored k 0) c.requires c.index-entry.ensures (free_other k w x L (not_by_none w x.holder L c.in_default.is))

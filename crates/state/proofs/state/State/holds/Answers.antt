@@ -1,6 +1,6 @@
 use Rattle.std.proofs.Common.{◌≡◌, ℕ, ◌+◌, ◌<◌, ◌≤◌, length, drop, vec_items, sym, arith}
 use Rattle.state.proofs.Writes.{count_mine, mine, count_next, count_end, mine_yes, mine_no, mine_none, view-counts}
-use Rattle.state.proofs.state.State.holds.Goals.{in-Some+then-v-w, in-Some+else-v-w, in-default}
+use Rattle.state.proofs.state.State.holds.Goals.{in-Some+then-v-w, in-Some+else-v-w, in_default}
 use Rattle.state.proofs.state.State.holds.Goals as goal
 
 pub loop-i-preserved : goal.loop-i-preserved
@@ -15,7 +15,7 @@ loop-i-preserved g c =
     elim c.match-entry.branch [
       | in-Some+then-v-w u ↦ (omega (arith, u.n-is, mine_yes w u.in-Some.v x.holder u.in-Some.is u.if-v-w.true), omega (arith, u.n-is))
       | in-Some+else-v-w u ↦ (omega (arith, u.n-is, mine_no w u.in-Some.v x.holder u.in-Some.is u.if-v-w.false), omega (arith, u.n-is))
-      | in-default u ↦ (omega (arith, u.n-is, mine_none w x.holder u.in-default.is), omega (arith, u.n-is))
+      | in_default u ↦ (omega (arith, u.n-is, mine_none w x.holder u.in_default.is), omega (arith, u.n-is))
     ] in
     (omega (arith, now.1, c.loop-i.invariant.0), omega (arith, now.0, n, c.loop-i.invariant.1))
 

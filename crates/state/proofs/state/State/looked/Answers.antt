@@ -6,7 +6,7 @@ use Rattle.history.specs.Model.{looks, reading, new_stored, free_stored}
 use Rattle.history.specs.History.{held_by}
 use Rattle.state.proofs.Views.{in_records, view_at}
 use Rattle.state.proofs.Writes.{there, held_own, not_by, not_by_none}
-use Rattle.state.proofs.state.State.looked.Goals.{in-Some+else-v-w, in-default}
+use Rattle.state.proofs.state.State.looked.Goals.{in-Some+else-v-w, in_default}
 use Rattle.state.proofs.state.State.looked.Goals as goal
 
 pub index-entry-requires : goal.index-entry-requires
@@ -36,6 +36,6 @@ returns g c =
     let n : held_by w (hold_of x.holder L) ≡ false =
     elim c.match-entry.branch [
       | in-Some+else-v-w u ↦ not_by w u.in-Some.v x.holder L u.in-Some.is u.if-v-w.false
-      | in-default u ↦ not_by_none w x.holder L u.in-default.is
+      | in_default u ↦ not_by_none w x.holder L u.in_default.is
     ] in
     c.reading.ensures ∙ ap (λ z. reading k z w) y ∙ sym (ap (λ z. looks k z w) y ∙ ap (λ z. cond z x.row (reading k (stored x L) w)) n)

@@ -2,7 +2,7 @@ use Rattle.std.proofs.Common.{◌≡◌, Bool, true, false, ◌&&◌, Some, None
 use Rattle.state.specs.View.{view, Owned}
 use Rattle.state.proofs.Views.{in_records, by_other_of, free_of}
 use Rattle.state.proofs.Owners.{own_of, own_is, full_up, own_five, own_six, own_seven, own_fine, not_mine, is_mine}
-use Rattle.state.proofs.state.State.may_change.Goals.{in-Some+else-v-w, in-None, else-free-via-then-free+else-is-full, else-free-via-else-free}
+use Rattle.state.proofs.state.State.may_change.Goals.{in-Some+else-v-w, in-None, else-free-via-then-free+else-is_full, else-free-via-else-free}
 use Rattle.state.proofs.state.State.may_change.Goals as goal
 
 pub index-entry-requires : goal.index-entry-requires
@@ -35,9 +35,9 @@ returns-then-w-last g c =
     ] in
     o ∙ own_six w i x.holder x.last (full_up k s) mine c.if-w-last.true
 
-pub returns-then-is-full : goal.returns-then-is-full
+pub returns-then-is_full : goal.returns-then-is_full
 unfolding Owned
-returns-then-is-full g c =
+returns-then-is_full g c =
     let k = g.K.Kind.ops in
     let s = c.args.self.now in
     let i = c.args.i in
@@ -54,7 +54,7 @@ returns-then-is-full g c =
       | in-Some+else-v-w u ↦ ap free_of u.in-Some.is ∙ sym u.free_is
       | in-None u ↦ ap free_of u.in-None.is ∙ sym u.free_is
     ] in
-    o ∙ own_seven w i x.holder x.last (full_up k s) mine c.if-w-last.false (fr ∙ c.if-free.true) (sym c.is-full.ensures ∙ c.if-is-full.true)
+    o ∙ own_seven w i x.holder x.last (full_up k s) mine c.if-w-last.false (fr ∙ c.if-free.true) (sym c.is_full.ensures ∙ c.if-is_full.true)
 
 pub returns : goal.returns
 unfolding Owned
@@ -77,7 +77,7 @@ returns g c =
     ] in
     let left : (free_of x.holder && full_up k s) ≡ false =
     elim c.else-free.branch [
-      | else-free-via-then-free+else-is-full u ↦ ap (λ z. z && full_up k s) (fr ∙ u.if-free.true) ∙ sym u.is-full.ensures ∙ u.if-is-full.false
+      | else-free-via-then-free+else-is_full u ↦ ap (λ z. z && full_up k s) (fr ∙ u.if-free.true) ∙ sym u.is_full.ensures ∙ u.if-is_full.false
       | else-free-via-else-free u ↦ ap (λ z. z && full_up k s) (fr ∙ u.if-free.false)
     ] in
     o ∙ own_fine w i x.holder x.last (full_up k s) mine c.if-w-last.false left

@@ -11,8 +11,8 @@ use Rattle.state.proofs.state.State.put.Goals as goal
 pub index-entry-requires : goal.index-entry-requires
 index-entry-requires g c = omega (arith, in_records c.args.self.now c.args.i c.requires.within, c.args.self.now.records.ok.0)
 
-pub index-mut-requires : goal.index-mut-requires
-index-mut-requires g c = omega (arith, in_records c.args.self.now c.args.i c.requires.within, c.args.self.now.records.ok.0)
+pub index_mut-requires : goal.index_mut-requires
+index_mut-requires g c = omega (arith, in_records c.args.self.now c.args.i c.requires.within, c.args.self.now.records.ok.0)
 
 pub stack-requires : goal.stack-requires
 stack-requires g c =
@@ -24,8 +24,8 @@ stack-requires g c =
     let o = own_none w i x.holder x.last (full_up k s) (sym (own_is k s i w x c.requires.within c.index-entry.ensures) ∙ c.requires.owned) in
     record { within = in_table s i c.requires.within; room = room_of x.holder (get_or (chains s.table) i []) (sum_by length (chains s.table)) (capacity s.table) o.1 }
 
-pub invariant-of-self : goal.invariant-of-self
-invariant-of-self g c =
+pub invariant_of-self : goal.invariant_of-self
+invariant_of-self g c =
     let k = g.K.Kind.ops in
     let s = c.args.self.now in
     let i = c.args.i in

@@ -5,12 +5,12 @@ use Rattle.state.proofs.Falls.{all_mono}
 use Rattle.state.specs.View.{view}
 use Rattle.state.proofs.state.State.tick.Goals as goal
 
-pub overflow-add-self : goal.overflow-add-self
+pub overflow_add-self : goal.overflow_add-self
 unfolding view
-overflow-add-self g c = let h : c.args.self.now.clock ≡ 4294967295 → ⊥ = c.requires in search rules
+overflow_add-self g c = let h : c.args.self.now.clock ≡ 4294967295 → ⊥ = c.requires in search rules
 
-pub invariant-of-self : goal.invariant-of-self
-invariant-of-self g c =
+pub invariant_of-self : goal.invariant_of-self
+invariant_of-self g c =
     let s = c.args.self.now in
     (s.sound, (all_mono s.clock (s.clock + 1) (viewed (vec_items s.records) (chains s.table)) (omega arith) s.falling, (s.few, tt)))
 

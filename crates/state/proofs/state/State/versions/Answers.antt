@@ -12,8 +12,8 @@ use Rattle.state.proofs.state.State.versions.Goals as goal
 pub index-requires : goal.index-requires
 index-requires g c = omega (arith, in_records c.args.self.now c.args.i c.requires, c.args.self.now.records.ok.0)
 
-pub overflow-sub-result : goal.overflow-sub-result
-overflow-sub-result g c =
+pub overflow_sub-result : goal.overflow_sub-result
+overflow_sub-result g c =
     let k = g.K.Kind.ops in
     let s = c.args.self.now in
     let i = c.args.i in

@@ -7,7 +7,7 @@ use Rattle.history.specs.Model.{held_number}
 use Rattle.state.proofs.Writes.{count_mine, mine, count_next, count_end, mine_yes, mine_no, mine_none, view-counts}
 use Rattle.state.proofs.Fresh.{rows_mine, view_held, turn_yes, turn_no, turn_none, turns_end}
 use Rattle.state.proofs.state.State.write_held.Given as given
-use Rattle.state.proofs.state.State.write_held.Goals.{in-Some+then-v-w, in-Some+else-v-w, in-default}
+use Rattle.state.proofs.state.State.write_held.Goals.{in-Some+then-v-w, in-Some+else-v-w, in_default}
 use Rattle.state.proofs.state.State.write_held.Goals as goal
 
 pub bounds-out-n : goal.bounds-out-n
@@ -20,8 +20,8 @@ bounds-out-n g c =
     let l : c.loop-i.n < length c.loop-i.out = omega (arith, c.loop-i.invariant.2, count_next w rs c.loop-i.i x h c.index-entry.ensures, mine_yes w c.in-Some.v x.holder c.in-Some.is c.if-v-w.true, view-counts w s, c.requires, c.loop-i.auto.out) in
     l
 
-pub offset-bounds-out-n : goal.offset-bounds-out-n
-offset-bounds-out-n g c =
+pub offset_bounds-out-n : goal.offset_bounds-out-n
+offset_bounds-out-n g c =
     let s = c.args.self.now in
     let rs = vec_items s.records in
     let w = c.args.w in
@@ -30,8 +30,8 @@ offset-bounds-out-n g c =
     let l : c.loop-i.n < length c.loop-i.out = omega (arith, c.loop-i.invariant.2, count_next w rs c.loop-i.i x h c.index-entry.ensures, mine_yes w c.in-Some.v x.holder c.in-Some.is c.if-v-w.true, view-counts w s, c.requires, c.loop-i.auto.out) in
     search rules
 
-pub overflow-add-n : goal.overflow-add-n
-overflow-add-n g c =
+pub overflow_add-n : goal.overflow_add-n
+overflow_add-n g c =
     let s = c.args.self.now in
     let rs = vec_items s.records in
     let w = c.args.w in
@@ -65,9 +65,9 @@ loop-i-preserved g c =
           let t = turn_no w i n rs x c.args.out.now out h c.index-entry.ensures inv.0 inv.1 u.in-Some.v u.in-Some.is u.if-v-w.false in
           let r = subst (λ z. T z c.match-entry.out) (sym u.n-is) (subst (λ o. T n o) (sym u.out-is) (t, inv.1)) in
           (r.0, r.1, omega (arith, u.n-is, y, cn, inv.2))
-      | in-default u ↦
-          let y = mine_none w x.holder u.in-default.is in
-          let t = turn_none w i n rs x c.args.out.now out h c.index-entry.ensures inv.0 inv.1 u.in-default.is in
+      | in_default u ↦
+          let y = mine_none w x.holder u.in_default.is in
+          let t = turn_none w i n rs x c.args.out.now out h c.index-entry.ensures inv.0 inv.1 u.in_default.is in
           let r = subst (λ z. T z c.match-entry.out) (sym u.n-is) (subst (λ o. T n o) (sym u.out-is) (t, inv.1)) in
           (r.0, r.1, omega (arith, u.n-is, y, cn, inv.2))
     ]

@@ -17,8 +17,8 @@ times-requires g c =
     let y = ap (λ (z : Stored g.row.K-Row.Denot g.row.K-Change.Denot). z.chain) (view_at s i (new_stored g.K.Kind.ops 0) x c.requires.within c.index.ensures) ∙ behind_none x.holder (get_or (chains s.table) i []) c.in-None.is in
     omega (arith, ap length y, c.requires.room)
 
-pub times-past-first-requires : goal.times-past-first-requires
-times-past-first-requires g c =
+pub times_past_first-requires : goal.times_past_first-requires
+times_past_first-requires g c =
     let s = c.args.self.now in
     let i = c.args.i in
     let x = c.index.result.now in
@@ -39,4 +39,4 @@ returns-in-Some g c =
     let i = c.args.i in
     let x = c.index.result.now in
     let y = ap (λ (z : Stored g.row.K-Row.Denot g.row.K-Change.Denot). z.chain) (view_at s i (new_stored g.K.Kind.ops 0) x c.requires.within c.index.ensures) ∙ behind_some x.holder c.in-Some.field-0 (get_or (chains s.table) i []) c.in-Some.is in
-    subst (λ (vs : List (Version g.row.K-Change.Denot)). Listed vs c.args.out.now c.times-past-first.result c.times-past-first.new.out) (sym y) c.times-past-first.ensures
+    subst (λ (vs : List (Version g.row.K-Change.Denot)). Listed vs c.args.out.now c.times_past_first.result c.times_past_first.new.out) (sym y) c.times_past_first.ensures

@@ -18,8 +18,8 @@ loop-i-preserved g c =
     ap (λ r. set (vec_items c.loop-i.records) i (record { row = r; last = c.args.start; holder = None })) c.blank.ensures
     ∙ ap (λ l. set l i v) c.loop-i.invariant ∙ blank_more v xs i h ∙ ap (λ n. replicate n v ++ drop n xs) (sym (add-one i))
 
-pub invariant-of-result : goal.invariant-of-result
-invariant-of-result g c =
+pub invariant_of-result : goal.invariant_of-result
+invariant_of-result g c =
     let xs = vec_items c.args.self.records in
     let n = length xs in
     let v : Entry g.row.K-Row.Denot = record { row = g.K.Kind.ops.blank; last = c.args.start; holder = None } in

@@ -21,11 +21,11 @@ returns-then-now g c =
       refl,
     )
 
-pub returns-in-err-add : goal.returns-in-err-add
+pub returns-in_err-add : goal.returns-in_err-add
 unfolding Begins
-returns-in-err-add g c =
+returns-in_err-add g c =
     let p = err_from_is_err_and c.from-residual.result c.from-residual.ensures.1 in
-    let e = c.in-err-add.ensures in
+    let e = c.in_err-add.ensures in
     let m = view c.args.self.now in
     let cap = g.R.Registry.capacity in
     let ls = g.R.Registry.leases c.args.registry.now in
@@ -42,14 +42,14 @@ tick-requires g c = λ q. c.if-now.false (c.clock-now.ensures ∙ q)
 pub returns : goal.returns
 unfolding Begins
 returns g c =
-    let e = c.in-ok-add.ensures in
+    let e = c.in_ok-add.ensures in
     let m = view c.args.self.now in
     let u = c.clock-now.ensures in
     let cap = g.R.Registry.capacity in
     let ls = g.R.Registry.leases c.args.registry.now in (
       passes (eqb m.clock limit) (clock_limit m.clock) (refused_open cap ls) (ne_eqb m.clock limit (λ q. c.if-now.false (u ∙ q)))
           ∙ passes (eqb (length ls) cap) (leases_used cap) None (ne_eqb (length ls) cap (λ q. omega (arith, q, e.0))),
-      subst (λ t. Of (t + 1) c.take-up.result) u c.take-up.ensures,
+      subst (λ t. Of (t + 1) c.take_up.result) u c.take_up.ensures,
       c.tick.ensures,
       e.1 ∙ ap (λ t. insert (t + 1) ls) u,
     )

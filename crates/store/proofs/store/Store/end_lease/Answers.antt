@@ -10,11 +10,11 @@ use Rattle.store.specs.View.{view}
 use Rattle.store.proofs.store.Store.end_lease.Goals.{else-n-gt0-via-then-n-gt0+else-now, else-n-gt0-via-else-n-gt0}
 use Rattle.store.proofs.store.Store.end_lease.Goals as goal
 
-pub returns-in-err-ask : goal.returns-in-err-ask
+pub returns-in_err-ask : goal.returns-in_err-ask
 unfolding Ends LeaseOpen
-returns-in-err-ask g c =
+returns-in_err-ask g c =
     let p = err_from_is_err_and c.from-residual.result c.from-residual.ensures.1 in
-    let e = c.in-err-ask.ensures in
+    let e = c.in_err-ask.ensures in
     let m = view c.args.self.now in
     let w = c.args.w in
     let ls = g.R.Registry.leases c.args.registry.now in
@@ -28,16 +28,16 @@ returns-then-now g c =
     let u = c.clock-now.ensures in
     let ls = g.R.Registry.leases c.args.registry.now in
     let b = ltb 0 (held_number w m) && eqb m.clock limit in (
-      is_open ls w (or_else b (clock_limit m.clock) None) c.in-ok-ask.ensures
+      is_open ls w (or_else b (clock_limit m.clock) None) c.in_ok-ask.ensures
           ∙ comes b (clock_limit m.clock) None (at_limit m c.args.n w c.requires c.if-n-gt0.true (sym u ∙ c.if-now.true)) ∙ ap (λ t. Some (clock_limit t)) (sym u),
       refl,
     )
 
-pub returns-in-err-remove : goal.returns-in-err-remove
+pub returns-in_err-remove : goal.returns-in_err-remove
 unfolding Ends
-returns-in-err-remove g c =
-    let p = err_from_is_err_and c.from-residual-in-err-remove.result c.from-residual-in-err-remove.ensures.1 in
-    let e = c.in-err-remove.ensures in
+returns-in_err-remove g c =
+    let p = err_from_is_err_and c.from-residual-in_err-remove.result c.from-residual-in_err-remove.ensures.1 in
+    let e = c.in_err-remove.ensures in
     let m = view c.args.self.now in
     let w = c.args.w in
     let ls = g.R.Registry.leases c.args.registry.now in
@@ -46,7 +46,7 @@ returns-in-err-remove g c =
 pub returns : goal.returns
 unfolding Ends
 returns g c =
-    let e = c.in-ok-remove.ensures in
+    let e = c.in_ok-remove.ensures in
     let m = view c.args.self.now in
     let w = c.args.w in
     let ls = g.R.Registry.leases c.args.registry.now in

@@ -15,8 +15,8 @@ returns-then-out-needed g c =
     let given = length c.args.out.now in
     (comes (ltb given v) (list_short v) None (lt-ltb given v (omega (arith, n, c.if-out-needed.true))) ∙ ap (λ z. Some (list_short z)) (sym n), refl)
 
-pub write-held-requires : goal.write-held-requires
-write-held-requires g c = omega (arith, c.holds-needed.ensures, c.if-out-needed.false)
+pub write_held-requires : goal.write_held-requires
+write_held-requires g c = omega (arith, c.holds-needed.ensures, c.if-out-needed.false)
 
 pub returns : goal.returns
 unfolding Holds
@@ -27,7 +27,7 @@ returns g c =
     let v = held_number c.args.writer.now.number m in
     let given = length c.args.out.now in (
       passes (ltb given v) (list_short v) None (le-ltb given v (omega (arith, n, c.if-out-needed.false))),
-      c.write-held.ensures.number ∙ ap (λ z. held_number z m) u,
-      c.write-held.ensures.front ∙ ap (λ z. held_from z 0 (owners m.records)) u,
-      c.write-held.ensures.rest,
+      c.write_held.ensures.number ∙ ap (λ z. held_number z m) u,
+      c.write_held.ensures.front ∙ ap (λ z. held_from z 0 (owners m.records)) u,
+      c.write_held.ensures.rest,
     )

@@ -9,31 +9,31 @@ use Rattle.store.specs.Calls.{Looks, LeaseOpen}
 use Rattle.store.specs.View.{view}
 use Rattle.store.proofs.store.Store.look.Goals as goal
 
-pub returns-in-err-i : goal.returns-in-err-i
+pub returns-in_err-i : goal.returns-in_err-i
 unfolding Looks Placed
-returns-in-err-i g c =
+returns-in_err-i g c =
     let p = err_from_is_err_and c.from-residual.result c.from-residual.ensures.1 in
-    let e = c.in-err-i.ensures in
+    let e = c.in_err-i.ensures in
     let ls = g.R.Registry.leases c.args.registry.now in
     rw (p.1, p.2) (no_such (view c.args.self.now) c.args.record (refused_lease ls c.args.writer.now.number None) e.0 ∙ ap (λ (f : StoreFault). Some f) (sym e.1), refl)
 
-pub returns-in-err-ask : goal.returns-in-err-ask
+pub returns-in_err-ask : goal.returns-in_err-ask
 unfolding Looks Placed LeaseOpen
-returns-in-err-ask g c =
-    let p = err_from_is_err_and c.from-residual-in-err-ask.result c.from-residual-in-err-ask.ensures.1 in
+returns-in_err-ask g c =
+    let p = err_from_is_err_and c.from-residual-in_err-ask.result c.from-residual-in_err-ask.ensures.1 in
     let ls = g.R.Registry.leases c.args.registry.now in
-    let e = c.in-err-ask.ensures in
+    let e = c.in_err-ask.ensures in
     let t = c.args.writer.now.number in
     let u = c.number-w.ensures in
     rw (p.1, p.2) (
-      such (view c.args.self.now) c.args.record (refused_lease ls t None) c.in-ok-i.ensures.0
+      such (view c.args.self.now) c.args.record (refused_lease ls t None) c.in_ok-i.ensures.0
           ∙ not_open ls t None (ap (λ n. count n ls) (sym u) ∙ e.0) ∙ ap (λ n. Some (no_lease n)) (sym u) ∙ ap (λ (f : StoreFault). Some f) (sym e.1),
       refl,
     )
 
 pub looked-requires : goal.looked-requires
 unfolding Placed
-looked-requires g c = omega (arith, c.in-ok-i.ensures.0, c.in-ok-i.ensures.1)
+looked-requires g c = omega (arith, c.in_ok-i.ensures.0, c.in_ok-i.ensures.1)
 
 pub returns : goal.returns
 unfolding Looks Placed LeaseOpen
@@ -41,10 +41,10 @@ returns g c =
     let k = g.K.Kind.ops in
     let m = view c.args.self.now in
     let ls = g.R.Registry.leases c.args.registry.now in
-    let e = c.in-ok-i.ensures in
+    let e = c.in_ok-i.ensures in
     let t = c.args.writer.now.number in
     let u = c.number-w.ensures in
-    let o : 0 < count t ls = subst (λ n. 0 < count n ls) u c.in-ok-ask.ensures in (
+    let o : 0 < count t ls = subst (λ n. 0 < count n ls) u c.in_ok-ask.ensures in (
       such m c.args.record (refused_lease ls t None) e.0 ∙ is_open ls t None o,
       c.looked.ensures ∙ ap (λ i. looks k (record_at k m i) c.number-w.result) e.1 ∙ ap (λ n. looks k (record_at k m c.args.record) n) u,
     )

@@ -9,31 +9,31 @@ use Rattle.store.specs.Calls.{Reads, LeaseOpen}
 use Rattle.store.specs.View.{view}
 use Rattle.store.proofs.store.Store.read.Goals as goal
 
-pub returns-in-err-i : goal.returns-in-err-i
+pub returns-in_err-i : goal.returns-in_err-i
 unfolding Reads Placed
-returns-in-err-i g c =
+returns-in_err-i g c =
     let p = err_from_is_err_and c.from-residual.result c.from-residual.ensures.1 in
-    let e = c.in-err-i.ensures in
+    let e = c.in_err-i.ensures in
     let ls = g.R.Registry.leases c.args.registry.now in
     rw (p.1, p.2) (no_such (view c.args.self.now) c.args.record (refused_lease ls c.args.lease.now.time None) e.0 ∙ ap (λ (f : StoreFault). Some f) (sym e.1), refl)
 
-pub returns-in-err-ask : goal.returns-in-err-ask
+pub returns-in_err-ask : goal.returns-in_err-ask
 unfolding Reads Placed LeaseOpen
-returns-in-err-ask g c =
-    let p = err_from_is_err_and c.from-residual-in-err-ask.result c.from-residual-in-err-ask.ensures.1 in
+returns-in_err-ask g c =
+    let p = err_from_is_err_and c.from-residual-in_err-ask.result c.from-residual-in_err-ask.ensures.1 in
     let ls = g.R.Registry.leases c.args.registry.now in
-    let e = c.in-err-ask.ensures in
+    let e = c.in_err-ask.ensures in
     let t = c.args.lease.now.time in
     let u = c.time-t.ensures in
     rw (p.1, p.2) (
-      such (view c.args.self.now) c.args.record (refused_lease ls t None) c.in-ok-i.ensures.0
+      such (view c.args.self.now) c.args.record (refused_lease ls t None) c.in_ok-i.ensures.0
           ∙ not_open ls t None (ap (λ n. count n ls) (sym u) ∙ e.0) ∙ ap (λ n. Some (no_lease n)) (sym u) ∙ ap (λ (f : StoreFault). Some f) (sym e.1),
       refl,
     )
 
 pub reading-requires : goal.reading-requires
 unfolding Placed
-reading-requires g c = omega (arith, c.in-ok-i.ensures.0, c.in-ok-i.ensures.1)
+reading-requires g c = omega (arith, c.in_ok-i.ensures.0, c.in_ok-i.ensures.1)
 
 pub returns : goal.returns
 unfolding Reads Placed LeaseOpen
@@ -41,10 +41,10 @@ returns g c =
     let k = g.K.Kind.ops in
     let m = view c.args.self.now in
     let ls = g.R.Registry.leases c.args.registry.now in
-    let e = c.in-ok-i.ensures in
+    let e = c.in_ok-i.ensures in
     let t = c.args.lease.now.time in
     let u = c.time-t.ensures in
-    let o : 0 < count t ls = subst (λ n. 0 < count n ls) u c.in-ok-ask.ensures in (
+    let o : 0 < count t ls = subst (λ n. 0 < count n ls) u c.in_ok-ask.ensures in (
       such m c.args.record (refused_lease ls t None) e.0 ∙ is_open ls t None o,
       c.reading.ensures ∙ ap (λ i. reading k (record_at k m i) c.time-t.result) e.1 ∙ ap (λ n. reading k (record_at k m c.args.record) n) u,
     )

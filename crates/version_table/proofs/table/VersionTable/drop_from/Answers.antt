@@ -26,5 +26,5 @@ loop-at-preserved g c = let w = turn g c in (w.behind, w.here, c.cut.ensures.roo
 
 pub returns : goal.returns
 returns g c =
-    let e = ended c.loop-at.self (chains c.args.self.now) c.args.r c.args.k c.loop-at.at c.loop-at.invariant.1 c.in-default.is in
+    let e = ended c.loop-at.self (chains c.args.self.now) c.args.r c.args.k c.loop-at.at c.loop-at.invariant.1 c.in_default.is in
     record { room = c.loop-at.invariant.2; dropped = c.loop-at.invariant.3 ∙ ap (set (chains c.args.self.now) c.args.r) (sym e.0 ∙ c.loop-at.invariant.4) }

@@ -6,5 +6,5 @@ use Rattle.version_table.proofs.table.VersionTable.new.Goals as goal
 pub returns : goal.returns
 unfolding chains capacity
 returns g c =
-    let k = c.in-ok-links.ensures in
-    (fresh_chains c.in-ok-versions.versions.items c.args.records (slots c.in-ok-links.links) k.0, k.1)
+    let k = c.in_ok-links.ensures in
+    (fresh_chains c.in_ok-versions.versions.items c.args.records (slots c.in_ok-links.links) k.0, k.1)

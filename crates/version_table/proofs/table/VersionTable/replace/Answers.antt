@@ -12,9 +12,9 @@ pub returns : goal.returns
 unfolding capacity
 returns g c =
     let t = c.args.self.now in
-    let done = some_front (get_or (slots t.links) c.args.r []) (get_or (chains t) c.args.r []) c.is-some.result (sym (chain_len t c.args.r)) (c.is-some.ensures ∙ ap is_some c.first-first.ensures.head) in
+    let done = some_front (get_or (slots t.links) c.args.r []) (get_or (chains t) c.args.r []) c.is_some.result (sym (chain_len t c.args.r)) (c.is_some.ensures ∙ ap is_some c.first-first.ensures.head) in
     record {
       room = ap size c.write.ensures.links;
       done = done;
-      replaced = front_written (chains t) (chains c.write.new.self) c.args.r c.args.version c.is-some.result done c.write.ensures.written;
+      replaced = front_written (chains t) (chains c.write.new.self) c.args.r c.args.version c.is_some.result done c.write.ensures.written;
     }
