@@ -27,7 +27,7 @@ invariant_of-self c =
     let b = bumped s.entries s.len c.in-Some.i c.args.time (omega (arith, s.within)) f.0 f.1 in
     let l = length-times (take s.len s.entries) in
     let few : size (take s.len s.entries) + 1 ≤ 32 = omega (arith, c.total-held.ensures, c.if-held-ge-CAPACITY.false) in
-    (s.within, (omega (arith, b.grown, few), (b.order s.ordered, tt)))
+    record { within = s.within; few = omega (arith, b.grown, few); ordered = b.order s.ordered }
 
 pub put_in-requires : goal.put_in-requires
 put_in-requires c =
@@ -44,13 +44,7 @@ invariant_of-self-in-None c =
     let n = len_le_size s.entries s.len (omega (arith, s.within)) s.ordered in
     let e : Entry = record { time = c.args.time; count = 1 } in
     let a : absent c.args.time es ≡ true = ap (absent c.args.time) (sym (mid_all s.entries s.len)) ∙ c.in-None.ensures in
-    let few : size es + 1 ≤ 32 = omega (arith, c.total-held.ensures, c.if-held-ge-CAPACITY.false) in (
-      omega (arith, n, few),
-      (
-        omega (arith, ap size c.put_in.ensures, size-placed e es, few),
-        (ap rising c.put_in.ensures ∙ rising-placed e es (omega arith) s.ordered a, tt),
-      ),
-    )
+    let few : size es + 1 ≤ 32 = omega (arith, c.total-held.ensures, c.if-held-ge-CAPACITY.false) in record { within = omega (arith, n, few); few = omega (arith, ap size c.put_in.ensures, size-placed e es, few); ordered = ap rising c.put_in.ensures ∙ rising-placed e es (omega arith) s.ordered a }
 
 pub returns-in-Some : goal.returns-in-Some
 returns-in-Some c =

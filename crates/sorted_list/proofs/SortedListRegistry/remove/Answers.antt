@@ -17,7 +17,7 @@ invariant_of-self c =
     let f = c.in-Some.ensures in
     let w : s.len ≤ length s.entries = omega (arith, s.within) in
     let b = lowered s.entries s.len c.in-Some.i c.args.time w f.0 f.1 c.if-old-gt-LAST.true in
-    (s.within, (omega (arith, b.shrunk, s.few), (b.order s.ordered, tt)))
+    record { within = s.within; few = omega (arith, b.shrunk, s.few); ordered = b.order s.ordered }
 
 pub invariant_of-self-else-old-gt-LAST : goal.invariant_of-self-else-old-gt-LAST
 invariant_of-self-else-old-gt-LAST c =
@@ -25,7 +25,7 @@ invariant_of-self-else-old-gt-LAST c =
     let es = take s.len s.entries in
     let i = c.in-Some.i in
     let e = c.take_out.ensures in
-    (omega (arith, s.within), (omega (arith, ap size e, out_size es i, s.few), (ap rising e ∙ out_rising es i s.ordered, tt)))
+    record { within = omega (arith, s.within); few = omega (arith, ap size e, out_size es i, s.few); ordered = ap rising e ∙ out_rising es i s.ordered }
 
 pub returns-then-old-gt-LAST : goal.returns-then-old-gt-LAST
 returns-then-old-gt-LAST c =

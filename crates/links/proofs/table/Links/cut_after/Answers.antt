@@ -24,7 +24,7 @@ pub overflow_sub-self : goal.overflow_sub-self
 overflow_sub-self c = (cut_in c.args.self.now c.args.r c.args.k c.args.p c.in-Some.s c.requires.row c.requires.place.0 c.requires.place.1 c.index.result.now c.index.ensures c.in-Some.is).some
 
 pub invariant_of-self : goal.invariant_of-self
-invariant_of-self c = let k = cut_read c.args.self.now c.args.r c.args.k c.args.p c.in-Some.s c.requires.row c.requires.place.0 c.requires.place.1 c.index.result.now c.index-t.result.now c.index.ensures c.in-Some.is c.index-t.ensures in (k.sound, (k.counted, tt))
+invariant_of-self c = let k = cut_read c.args.self.now c.args.r c.args.k c.args.p c.in-Some.s c.requires.row c.requires.place.0 c.requires.place.1 c.index.result.now c.index-t.result.now c.index.ensures c.in-Some.is c.index-t.ensures in record { sound = k.sound; counted = k.counted }
 
 pub returns-in-Some : goal.returns-in-Some
 unfolding slots size

@@ -22,7 +22,7 @@ pub invariant_of-self : goal.invariant_of-self
 invariant_of-self c =
     let f = front c.args.self.now c.args.r c.in-Some.s c.in-Some.ensures.head in
     let k = give_read c.args.self.now c.args.r c.in-Some.s c.index.result.now f.row f.head c.index.ensures in
-    (k.sound, (k.counted, tt))
+    record { sound = k.sound; counted = k.counted }
 
 pub returns-in-None : goal.returns-in-None
 returns-in-None c = record { size = refl; given = (refl, sym c.in-None.ensures.list ∙ from_none c.args.self.now) }

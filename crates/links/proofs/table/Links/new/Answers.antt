@@ -5,7 +5,7 @@ use Rattle.links.proofs.table.Links.new.Goals as goal
 pub invariant_of-result : goal.invariant_of-result
 invariant_of-result c =
     let k = made_fresh c.args.n c.args.m c.in_ok-next.next.items c.in_ok-heads.heads.items c.requires.0 c.in_ok-next.ensures c.in_ok-heads.ensures in
-    (k.sound, (k.counted, tt))
+    record { sound = k.sound; counted = k.counted }
 
 pub returns : goal.returns
 unfolding slots size

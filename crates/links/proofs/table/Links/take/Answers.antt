@@ -24,7 +24,7 @@ index_mut-requires-in-Some c = omega (arith, row_in c.args.self.now c.args.r (ro
 pub invariant_of-self : goal.invariant_of-self
 invariant_of-self c =
     let k = take_read c.args.self.now c.args.r c.in-Some.s c.index.result.now c.index-head.result.now (row c.args.self.now c.len.result c.args.r c.len.ensures c.if-len-r.false) c.in-Some.is c.index.ensures c.index-head.ensures in
-    (k.sound, (k.counted, tt))
+    record { sound = k.sound; counted = k.counted }
 
 pub returns-then-len-r : goal.returns-then-len-r
 returns-then-len-r c = record { size = refl; taken = (refl, λ h. absurd (no_row h)) }

@@ -14,7 +14,7 @@ overflow_add-self g c = let h : c.args.self.now.clock ≡ 4294967295 → ⊥ = c
 pub invariant_of-self : goal.invariant_of-self
 invariant_of-self g c =
     let s = c.args.self.now in
-    (s.sound, (all_mono s.clock (s.clock + 1) (viewed (vec_items s.records) (chains s.table)) (omega arith) s.falling, (s.few, tt)))
+    record { sound = s.sound; falling = all_mono s.clock (s.clock + 1) (viewed (vec_items s.records) (chains s.table)) (omega arith) s.falling; few = s.few }
 
 pub finish_all-requires : goal.finish_all-requires
 unfolding view
