@@ -6,7 +6,7 @@ use Rattle.version_table.proofs.Picks.{cursor, cursor_end, written_more, written
 use Rattle.version_table.proofs.walk.times_from.Given as given
 use Rattle.version_table.proofs.walk.times_from.Goals as goal
 
-below : (g : given.Over) (c : goal.After-version·1 g) → c.loop-at.n < length c.loop-at.out
+below : (g : given.Over) (c : goal.After-version-1 g) → c.loop-at.n < length c.loop-at.out
 below g c =
     let k = ap length (cursor c.args.table.now c.in-Some.s c.loop-at.at c.after-next.result c.index-version.result.now c.in-Some.is c.after-next.ensures.list c.after-next.ensures.inside c.index-version.ensures) in
     omega (arith, k, c.requires.room, c.loop-at.invariant.3, c.loop-at.auto.out)
