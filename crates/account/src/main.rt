@@ -1,4 +1,6 @@
 // An account of one day at the weighbridge, told from beginning to end. Each figure is computed by the library.
+#![tactic(auto)]
+
 mod asking;
 mod calls;
 mod corrections;

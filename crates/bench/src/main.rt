@@ -1,4 +1,6 @@
 // The workload of docs/BENCH.md over the store: counts and checksums of all answers, and on demand times.
+#![tactic(auto)]
+
 mod batch;
 mod drive;
 mod generator;

@@ -1,4 +1,6 @@
 // Eight attributes, set through masks: the kind of a truck's empty weights.
+#![tactic(auto)]
+
 ghost use Rattle.std.specs.Prelude.{◌≡◌};
 ghost use Rattle.fields.specs.Fields.{fields_ops, fields_tells, patch};
 ghost use Rattle.fields.specs.Laws.{fields_laws};

@@ -1,4 +1,6 @@
 // Eight figures worked by hand, which hold of the very definitions that the contracts of kinds and chains cite.
+#![tactic(auto)]
+
 ghost use Rattle.std.specs.Prelude.{◌≡◌};
 ghost use Rattle.figures.specs.Figures.{Figures};
 

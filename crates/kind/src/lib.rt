@@ -1,4 +1,6 @@
 // A kind of change: rows, edits of rows, and changes (before-images) that take edits back.
+#![tactic(auto)]
+
 ghost use Rattle.std.specs.Prelude.{◌≡◌, Decides};
 ghost use Rattle.kind.specs.Kinds.{Ops, Laws};
 

@@ -1,4 +1,6 @@
 // Examples of both registries and of the tokens, worked by hand from the rules.
+#![tactic(auto)]
+
 #[cfg(test)]
 mod both;
 #[cfg(test)]

@@ -1,4 +1,6 @@
 // Scripts: lines, words, numbers and commands, read from bytes.
+#![tactic(auto)]
+
 pub mod command;
 pub mod fault;
 pub mod kinds;

@@ -1,4 +1,6 @@
 // Scripts and what they print, worked by hand from the rules.
+#![tactic(auto)]
+
 #[cfg(test)]
 mod compare;
 #[cfg(test)]

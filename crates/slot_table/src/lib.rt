@@ -1,4 +1,6 @@
 // The slot table: a registry with one slot for each lease.
+#![tactic(auto)]
+
 ghost use Rattle.slot_table.specs.Slots.{slot_times, slot_count};
 ghost use Rattle.std.proofs.Common.{rules};
 

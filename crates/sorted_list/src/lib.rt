@@ -1,4 +1,6 @@
 // The sorted list: a registry that keeps each open time once, with its number of leases.
+#![tactic(auto)]
+
 ghost use Rattle.std.specs.Prelude.{◌≡◌, ◌≤◌, true, take};
 ghost use Rattle.sorted_list.specs.Entries.{times, size, rising, list_capacity};
 ghost use Rattle.std.proofs.Common.{rules, arith};

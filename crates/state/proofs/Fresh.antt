@@ -10,6 +10,7 @@ use Rattle.history.specs.History.{free, held_by, who}
 use Rattle.state.specs.Stored.{stored, viewed, behind, hold_of}
 use Rattle.state.specs.View.{view}
 use Rattle.std.proofs.lemmas.List.Sums.{sum_by-cons}
+use Rattle.kind.specs.declared.Kind.{Ghosts}
 use Rattle.version_table.specs.Chains.{chains}
 use Rattle.state.specs.declared.state.State.{State}
 use Rattle.history.specs.Model.{held_from, owners}
@@ -120,6 +121,6 @@ module _ {Row : Type 0} (w i n : ℕ) (rs : List (Entry Row)) (x : Entry Row) (o
 pub turns_end : {Row : Type 0} (w i n : ℕ) (rs : List (Entry Row)) (out : List ℕ) → length rs ≤ i → take n out ++ rows_mine w i (drop i rs) ≡ rows_mine w 0 rs → take n out ≡ rows_mine w 0 rs
 turns_end w i n rs out h inv = sym (append-nil (take n out)) ∙ ap (λ z. take n out ++ z) (sym (at_drop_all (rows_mine w i) rs i h)) ∙ inv
 
-pub view_held : {K Row Edit C : Type 0} (w : ℕ) (s : State K Row Edit C) → held_from w 0 (owners (view s).records) ≡ rows_mine w 0 (vec_items s.records)
+pub view_held : {K Row Edit C : Type 0} {G : Ghosts K Row Edit C} (w : ℕ) (s : State K Row Edit C G) → held_from w 0 (owners (view s).records) ≡ rows_mine w 0 (vec_items s.records)
 unfolding view
 view_held w s = rows_are w 0 (vec_items s.records) (chains s.table) s.sound

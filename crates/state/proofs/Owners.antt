@@ -2,6 +2,7 @@
 use Rattle.std.proofs.Common.{◌≡◌, ℕ, ◌<◌, ◌≤◌, Bool, true, false, cond, not, ◌&&◌, eqb, ltb, leb, List, [], ◌∷◌, length, get_or, Some, None, vec_items, sum_by, Option, sym, refl, ap, ◌∙◌, subst, true≢false, arith}
 use mathlib.Core.Bool.{false≢true}
 use Rattle.std.proofs.lemmas.Bool.Decides.{nat_tests}
+use Rattle.kind.specs.declared.Kind.{Ghosts}
 use Rattle.kind.specs.Kinds.{Ops}
 use Rattle.chain.specs.declared.version.Version.{Version}
 use Rattle.version_table.specs.Chains.{chains, capacity}
@@ -28,7 +29,7 @@ parts w i other last fr full =
     (or_else (ltb w last) (record { cause = RowNewer; place = i })
     (or_else (fr && full) (record { cause = VersionsUsed; place = i }) None))
 
-module _ {K Row Edit C : Type 0} (k : Ops Row Edit C) (s : State K Row Edit C) where
+module _ {K Row Edit C : Type 0} {G : Ghosts K Row Edit C} (k : Ops Row Edit C) (s : State K Row Edit C G) where
   abbrev pub full_up : Bool
   full_up = leb (capacity s.table) (sum_by length (chains s.table))
 

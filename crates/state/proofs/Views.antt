@@ -11,6 +11,7 @@ use Rattle.chain.specs.Versions.{reads}
 use Rattle.chain.specs.Pruning.{prune}
 use Rattle.chain.specs.Pruning.{prune_held}
 use Rattle.std.proofs.lemmas.List.{set-get_or}
+use Rattle.kind.specs.declared.Kind.{Ghosts}
 use Rattle.kind.specs.Kinds.{Ops}
 use Rattle.state.specs.declared.entry.Entry.{Entry}
 use Rattle.state.specs.declared.state.State.{State}
@@ -87,7 +88,7 @@ module _ {Row C : Type 0} where
       let a = and_both (backed r.holder c) (matched rs cs) e in
       omega (arith, one_use r.holder c a.0, uses rs cs a.1, sum_by-cons length c cs)
 
-module _ {K Row Edit C : Type 0} (s : State K Row Edit C) where
+module _ {K Row Edit C : Type 0} {G : Ghosts K Row Edit C} (s : State K Row Edit C G) where
   pub view-rows : length (view s).records ≡ length (vec_items s.records)
   unfolding view
   view-rows = viewed-rows (vec_items s.records) (chains s.table) s.sound
@@ -171,12 +172,12 @@ module _ {Row Edit C : Type 0} (k : Ops Row Edit C) (os : ℕ → ℕ) where
         ∙ viewed-set (pruned k os) rs cs i x x (swept k os x.row x.holder (get_or cs i [])) m h q
 
 -- the chains below n are pruned, and nothing else is altered
-abbrev pub SweptTo : {K Row Edit C : Type 0} → Ops Row Edit C → (ℕ → ℕ) → State K Row Edit C → ℕ → Vec (Entry Row) Global → VersionTable C → ℕ → Type 0
+abbrev pub SweptTo : {K Row Edit C : Type 0} {G : Ghosts K Row Edit C} → Ops Row Edit C → (ℕ → ℕ) → State K Row Edit C G → ℕ → Vec (Entry Row) Global → VersionTable C → ℕ → Type 0
 SweptTo k os s₀ clock records table n =
     (clock ≡ s₀.clock) × (records ≡ s₀.records) × (capacity table ≡ capacity s₀.table)
     × (viewed (vec_items records) (chains table) ≡ map_first (pruned k os) n (viewed (vec_items s₀.records) (chains s₀.table)))
 
-module _ {K Row Edit C : Type 0} (k : Ops Row Edit C) (os : ℕ → ℕ) (s₀ s : State K Row Edit C) (i : ℕ) (x : Entry Row) (t : VersionTable C) where
+module _ {K Row Edit C : Type 0} {G : Ghosts K Row Edit C} (k : Ops Row Edit C) (os : ℕ → ℕ) (s₀ s : State K Row Edit C G) (i : ℕ) (x : Entry Row) (t : VersionTable C) where
   module _ (h : i < length (vec_items s.records)) (e : x ≡ get_or (vec_items s.records) i x) (p : chains t ≡ set (chains s.table) i (swept k os x.row x.holder (get_or (chains s.table) i []))) where
     pub sweep_sound : matched (vec_items s.records) (chains t) ≡ true
     sweep_sound = swept_sound k os (vec_items s.records) (chains s.table) (chains t) i x s.sound h e p
@@ -195,7 +196,7 @@ module _ {K Row Edit C : Type 0} (k : Ops Row Edit C) (os : ℕ → ℕ) (s₀ s
               ∙ ap (λ z. change_at f z i) v.3 ∙ map_more f old i lt ∙ ap (λ n. map_first f n old) (sym (add-one i)),
         )
 
-module _ {K Row Edit C : Type 0} (k : Ops Row Edit C) (os : ℕ → ℕ) (s₀ s : State K Row Edit C) where
+module _ {K Row Edit C : Type 0} {G : Ghosts K Row Edit C} (k : Ops Row Edit C) (os : ℕ → ℕ) (s₀ s : State K Row Edit C G) where
   pub sweep_end : (n : ℕ) → length (vec_items s₀.records) ≤ n → SweptTo k os s₀ s.clock s.records s.table n → view s ≡ all_pruned k os (view s₀)
   unfolding view
   sweep_end n h v =
@@ -252,7 +253,7 @@ module _ {Row Edit C : Type 0} (k : Ops Row Edit C) (w : ℕ) (e : Edit) where
   stacked-backed (Some u) v (o ∷ vs) b = refl
 
 -- a record and its chain after one more change
-module _ {K Row Edit C : Type 0} (k : Ops Row Edit C) (w : ℕ) (e : Edit) (s : State K Row Edit C) (i : ℕ) (x : Entry Row) (t : VersionTable C) (p : Row × C) where
+module _ {K Row Edit C : Type 0} {G : Ghosts K Row Edit C} (k : Ops Row Edit C) (w : ℕ) (e : Edit) (s : State K Row Edit C G) (i : ℕ) (x : Entry Row) (t : VersionTable C) (p : Row × C) where
   module _ (h : i < length (vec_items s.records)) (ex : x ≡ get_or (vec_items s.records) i x) (ep : p ≡ (k.edited x.row e, k.before x.row e)) (mine : by_other_of w x.holder ≡ false) (q : chains t ≡ set (chains s.table) i (stacked k x.holder (record { time = w; change = p.1 }) (get_or (chains s.table) i []))) where
     there : backed x.holder (get_or (chains s.table) i []) ≡ true
     there = ap (λ (z : Entry Row). backed z.holder (get_or (chains s.table) i [])) ex ∙ backed_at (vec_items s.records) (chains s.table) i x s.sound h

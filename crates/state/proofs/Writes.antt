@@ -3,6 +3,7 @@ use Rattle.std.proofs.Common.{◌≡◌, ℕ, zero, suc, ◌+◌, ◌<◌, ◌�
 use mathlib.Core.Bool.{false≢true}
 use Rattle.std.proofs.lemmas.Bool.Decides.{nat_tests}
 use Rattle.std.proofs.lemmas.List.{at_drop_more, at_drop_all}
+use Rattle.kind.specs.declared.Kind.{Ghosts}
 use Rattle.kind.specs.Kinds.{Ops}
 use Rattle.chain.specs.declared.version.Version.{Version}
 use Rattle.version_table.specs.declared.table.VersionTable.{VersionTable}
@@ -17,7 +18,7 @@ use Rattle.state.specs.Stored.{hold_of, behind, stored, viewed}
 use Rattle.state.specs.View.{view}
 use Rattle.state.proofs.Views.{matched-set, viewed-set, backed_at, view_at, in_records, map_more, map_all}
 
-module _ {K Row Edit C : Type 0} (f : Stored Row C → Stored Row C) (s : State K Row Edit C) (i : ℕ) (x : Entry Row) where
+module _ {K Row Edit C : Type 0} {G : Ghosts K Row Edit C} (f : Stored Row C → Stored Row C) (s : State K Row Edit C G) (i : ℕ) (x : Entry Row) where
   pub there : i < length (view s).records → x ≡ get_or (vec_items s.records) i x → backed x.holder (get_or (chains s.table) i []) ≡ true
   there h ex = ap (λ (z : Entry Row). backed z.holder (get_or (chains s.table) i [])) ex ∙ backed_at (vec_items s.records) (chains s.table) i x s.sound (in_records s i h)
 
@@ -35,7 +36,7 @@ change_none f d [] i e = refl
 change_none f d (x ∷ xs) zero e = ap (λ z. z ∷ xs) e
 change_none f d (x ∷ xs) (suc i) e = ap (λ z. x ∷ z) (change_none f d xs i e)
 
-module _ {K Row Edit C : Type 0} (f : Stored Row C → Stored Row C) (s : State K Row Edit C) (i : ℕ) (x : Entry Row) (d : Stored Row C) where
+module _ {K Row Edit C : Type 0} {G : Ghosts K Row Edit C} (f : Stored Row C → Stored Row C) (s : State K Row Edit C G) (i : ℕ) (x : Entry Row) (d : Stored Row C) where
   pub unwritten : i < length (view s).records → x ≡ get_or (vec_items s.records) i x → f (stored x (get_or (chains s.table) i [])) ≡ stored x (get_or (chains s.table) i []) → view s ≡ one_changed f i (view s)
   unwritten h ex e =
       let a = view_at s i d x h ex in
@@ -138,7 +139,7 @@ counts w (r ∷ rs) (c ∷ cs) e =
     let a = and_both (backed r.holder c) (matched rs cs) e in
     omega (arith, one_mine w r.holder c a.0, counts w rs cs a.1)
 
-pub view-counts : {K Row Edit C : Type 0} (w : ℕ) (s : State K Row Edit C) → held_number w (view s) ≡ count_mine w (vec_items s.records)
+pub view-counts : {K Row Edit C : Type 0} {G : Ghosts K Row Edit C} (w : ℕ) (s : State K Row Edit C G) → held_number w (view s) ≡ count_mine w (vec_items s.records)
 unfolding view
 view-counts w s = counts w (vec_items s.records) (chains s.table) s.sound
 
@@ -164,6 +165,6 @@ by_some w v (u ∷ c) q b = same_number v w q
 pub held_own : {C : Type 0} (w v : ℕ) (o : Option ℕ) (c : List (Version C)) → o ≡ Some v → v ≡ w → backed o c ≡ true → held_by w (hold_of o c) ≡ true
 held_own w v o c e q b = ap (λ z. held_by w (hold_of z c)) e ∙ by_some w v c q (ap (λ z. backed z c) (sym e) ∙ b)
 
-pub clock_is : {K Row Edit C : Type 0} (s : State K Row Edit C) → s.clock ≡ (view s).clock
+pub clock_is : {K Row Edit C : Type 0} {G : Ghosts K Row Edit C} (s : State K Row Edit C G) → s.clock ≡ (view s).clock
 unfolding view
 clock_is s = refl

@@ -3,6 +3,7 @@
 --     Sized n v start r          what the check of the sizes answers
 --     fresh_records f, fresh_versions f    how many records and versions a new store is for
 use Rattle.std.specs.Prelude.{◌≡◌, ℕ, ◌||◌, Some, None, Ok, Err, Option, Result, ◌==◌, nat_lt}
+use Rattle.kind.specs.declared.Kind.{Ghosts}
 use Rattle.history.specs.declared.fault.StoreCause.TheVariants.{TableSize, StartHigh}
 use Rattle.history.specs.declared.fault.StoreFault.{StoreFault}
 use Rattle.history.specs.History.{limit}
@@ -21,8 +22,8 @@ abbrev pub Sized : ℕ → ℕ → ℕ → Result Sizes StoreFault → Type 0
 Sized n v start (Ok s) = (refused_sizes n v start ≡ None) × (s.records ≡ n) × (s.versions ≡ v) × (s.start ≡ start)
 Sized n v start (Err f) = refused_sizes n v start ≡ Some f
 
-abbrev pub fresh_records : {K Row Edit C : Type 0} → Fresh K Row Edit C → ℕ
+abbrev pub fresh_records : {K Row Edit C : Type 0} {G : Ghosts K Row Edit C} → Fresh K Row Edit C G → ℕ
 fresh_records f = table_records f.tables
 
-abbrev pub fresh_versions : {K Row Edit C : Type 0} → Fresh K Row Edit C → ℕ
+abbrev pub fresh_versions : {K Row Edit C : Type 0} {G : Ghosts K Row Edit C} → Fresh K Row Edit C G → ℕ
 fresh_versions f = table_versions f.tables

@@ -1,4 +1,6 @@
 // The store: its twelve calls. Each checks in the order of the refusals' numbers, then takes one step that cannot fail.
+#![tactic(auto)]
+
 pub mod checks;
 pub mod counts;
 pub mod endings;

@@ -1,4 +1,6 @@
 // Scenes on a store, each with every answer worked by hand from the rules.
+#![tactic(auto)]
+
 #[cfg(test)]
 mod limits;
 #[cfg(test)]

@@ -1,4 +1,6 @@
 // Four counters modulo 2^64: the kind of a yard's loads and tonnage.
+#![tactic(auto)]
+
 ghost use Rattle.std.specs.Prelude.{◌≡◌};
 ghost use Rattle.tallies.specs.Tallies.{tallies_ops, tallies_tells, plus as tallies-plus, minus as tallies-minus};
 ghost use Rattle.tallies.specs.Laws.{tallies_laws};

@@ -1,4 +1,6 @@
 // The program: a script from standard input, its transcript to standard output.
+#![tactic(auto)]
+
 mod input;
 mod trouble;
 

@@ -51,8 +51,8 @@ returns-then-is_full g c =
     ] in
     let fr : free_of x.holder ≡ c.match-entry.free =
     elim c.match-entry.branch [
-      | in-Some+else-v-w u ↦ ap free_of u.in-Some.is ∙ sym u.free_is
-      | in-None u ↦ ap free_of u.in-None.is ∙ sym u.free_is
+      | in-Some+else-v-w u ↦ ap free_of u.in-Some.is ∙ sym u.free-is
+      | in-None u ↦ ap free_of u.in-None.is ∙ sym u.free-is
     ] in
     o ∙ own_seven w i x.holder x.last (full_up k s) mine c.if-w-last.false (fr ∙ c.if-free.true) (sym c.is_full.ensures ∙ c.if-is_full.true)
 
@@ -72,8 +72,8 @@ returns g c =
     ] in
     let fr : free_of x.holder ≡ c.match-entry.free =
     elim c.match-entry.branch [
-      | in-Some+else-v-w u ↦ ap free_of u.in-Some.is ∙ sym u.free_is
-      | in-None u ↦ ap free_of u.in-None.is ∙ sym u.free_is
+      | in-Some+else-v-w u ↦ ap free_of u.in-Some.is ∙ sym u.free-is
+      | in-None u ↦ ap free_of u.in-None.is ∙ sym u.free-is
     ] in
     let left : (free_of x.holder && full_up k s) ≡ false =
     elim c.else-free.branch [

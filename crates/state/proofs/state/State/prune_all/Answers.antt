@@ -44,7 +44,7 @@ loop-i-preserved g c =
     let x = c.index-entry.result.now in
     let same = ap (λ z. length (vec_items z)) c.loop-i.invariant.1 in
     let h : i < length (vec_items s.records) = omega (arith, same, s₀.records.ok.0, c.loop-i-test.true, c.len-i-end.ensures) in
-    let S = State g.row.K.Denot g.row.K-Row.Denot g.row.K-Edit.Denot g.row.K-Change.Denot in
+    let S = State g.row.K.Denot g.row.K-Row.Denot g.row.K-Edit.Denot g.row.K-Change.Denot g.K.Kind in
     elim c.match-entry.branch [
       | in-None w ↦
           let p = w.prune_chain.ensures.pruned ∙ ap (λ o. set (chains s.table) i (swept k os x.row o (get_or (chains s.table) i []))) (sym w.in-None.is) in

@@ -30,7 +30,7 @@ returns-after-front g c =
     let v = ap (λ z. reading k z t) (view_at s c.args.i (new_stored k 0) x c.requires c.index-entry.ensures) in
     let h : reading k (stored x L) t ≡ reads k c.match-front.reached (drop 1 L) t =
     elim c.match-front.branch [
-      | in-Some-front w ↦ read_held k x L t c.in-Some.field-0 w.in-Some-front.own_val c.in-Some.is w.in-Some-front.ensures ∙ ap (λ q. reads k q (drop 1 L) t) (sym (w.reached-is ∙ w.undo-reached.ensures))
+      | in-Some-front w ↦ read_held k x L t c.in-Some.field-0 w.in-Some-front.own c.in-Some.is w.in-Some-front.ensures ∙ ap (λ q. reads k q (drop 1 L) t) (sym (w.reached-is ∙ w.undo-reached.ensures))
       | in_default w ↦ read_bare k x L t c.in-Some.field-0 c.in-Some.is w.in_default.ensures ∙ ap (λ q. reads k q (drop 1 L) t) (sym w.reached-is)
     ] in
     c.read_past_first.ensures (subst Falling (ap (λ o. behind o L) c.in-Some.is) (chain_falls s c.args.i x (new_stored k 0) c.requires c.index-entry.ensures)) ∙ sym (v ∙ h)
