@@ -6,12 +6,12 @@ use Rattle.script.proofs.opening.read_opening.Goals as goal
 
 pub returns-in_default : goal.returns-in_default
 returns-in_default c =
-    ap (λ f. Err f) c.unknown_letter_fault.ensures
+    ap (λ f. Err f) c.unknown_letter.ensures
     ∙ sym (opens_unknown c.args.line.now c.new-words.result.line.now c.new-words.result.at c.new-words.ensures.0 c.new-words.ensures.1 (record { same = c.next_word-first.ensures.same; word = c.next_word-first.ensures.word; left = c.next_word-first.ensures.left }) c.in_default.ensures)
 
 pub returns-in-Err : goal.returns-in-Err
 returns-in-Err c =
-    ap (λ f. Err f) c.bad_word_fault.ensures ∙ ap (λ r. ended 1 r (words_left c.next_word-start.new.self.line.now c.next_word-start.new.self.at)) (sym c.in-Err.is ∙ c.judge_sizes.ensures) ∙ sym (opens-known c.args.line.now c.new-words.result.line.now c.new-words.result.at c.new-words.ensures.0 c.new-words.ensures.1
+    ap (λ f. Err f) c.bad_word.ensures ∙ ap (λ r. ended 1 r (words_left c.next_word-start.new.self.line.now c.next_word-start.new.self.at)) (sym c.in-Err.is ∙ c.judge_sizes.ensures) ∙ sym (opens-known c.args.line.now c.new-words.result.line.now c.new-words.result.at c.new-words.ensures.0 c.new-words.ensures.1
     (record { same = c.next_word-first.ensures.same; word = c.next_word-first.ensures.word; left = c.next_word-first.ensures.left }) c.in-Some.kind c.in-Some.ensures
     (record { same = c.next_word-registry.ensures.same; word = c.next_word-registry.ensures.word; left = c.next_word-registry.ensures.left })
     (record { same = c.next_word-records.ensures.same; word = c.next_word-records.ensures.word; left = c.next_word-records.ensures.left })

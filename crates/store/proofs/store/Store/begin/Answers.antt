@@ -24,7 +24,7 @@ returns-then-now g c =
 pub returns-in_err-add : goal.returns-in_err-add
 unfolding Begins
 returns-in_err-add g c =
-    let p = err_from_is_err_and c.from-residual.result c.from-residual.ensures.1 in
+    let p = err_from_is_err_and c.from_residual.result c.from_residual.ensures.1 in
     let e = c.in_err-add.ensures in
     let m = view c.args.self.now in
     let cap = g.R.Registry.capacity in

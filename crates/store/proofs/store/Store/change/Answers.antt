@@ -12,7 +12,7 @@ use Rattle.store.proofs.store.Store.change.Goals as goal
 pub returns-in_err-i : goal.returns-in_err-i
 unfolding Changes Placed
 returns-in_err-i g c =
-    let p = err_from_is_err_and c.from-residual.result c.from-residual.ensures.1 in
+    let p = err_from_is_err_and c.from_residual.result c.from_residual.ensures.1 in
     let e = c.in_err-i.ensures in
     let m = view c.args.self.now in
     let ls = g.R.Registry.leases c.args.registry.now in
@@ -22,7 +22,7 @@ returns-in_err-i g c =
 pub returns-in_err-ask : goal.returns-in_err-ask
 unfolding Changes Placed LeaseOpen
 returns-in_err-ask g c =
-    let p = err_from_is_err_and c.from-residual-in_err-ask.result c.from-residual-in_err-ask.ensures.1 in
+    let p = err_from_is_err_and c.from_residual-in_err-ask.result c.from_residual-in_err-ask.ensures.1 in
     let m = view c.args.self.now in
     let ls = g.R.Registry.leases c.args.registry.now in
     let e = c.in_err-ask.ensures in
@@ -42,7 +42,7 @@ may_change-requires g c = omega (arith, c.in_ok-i.ensures.0, c.in_ok-i.ensures.1
 pub returns-in_err-may_change : goal.returns-in_err-may_change
 unfolding Changes Placed LeaseOpen Owned
 returns-in_err-may_change g c =
-    let p = err_from_is_err_and c.from-residual-in_err-may_change.result c.from-residual-in_err-may_change.ensures.1 in
+    let p = err_from_is_err_and c.from_residual-in_err-may_change.result c.from_residual-in_err-may_change.ensures.1 in
     let k = g.K.Kind.ops in
     let m = view c.args.self.now in
     let ls = g.R.Registry.leases c.args.registry.now in

@@ -10,7 +10,7 @@ use Rattle.store.proofs.store.Store.close.Goals as goal
 pub returns-in_err-remove : goal.returns-in_err-remove
 unfolding Closes
 returns-in_err-remove g c =
-    let p = err_from_is_err_and c.from-residual.result c.from-residual.ensures.1 in
+    let p = err_from_is_err_and c.from_residual.result c.from_residual.ensures.1 in
     let e = c.in_err-remove.ensures in
     let ls = g.R.Registry.leases c.args.registry.now in
     let t = c.args.lease.time in

@@ -41,6 +41,6 @@ returns g c =
       ap (λ z. refused_commit m ls z) (sym u) ∙ e.0,
       e.1 ∙ ap (λ z. delete z ls) u,
       all,
-      c.clock.ensures ∙ ap (λ (z : Model g.row.K-Row.Denot g.K.Change.Denot). z.clock) all,
+      c.clock.ensures ∙ ap (λ (z : Model g.row.K-Row.Denot g.row.K-Change.Denot). z.clock) all,
       n,
     )

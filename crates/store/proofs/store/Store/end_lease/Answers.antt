@@ -13,7 +13,7 @@ use Rattle.store.proofs.store.Store.end_lease.Goals as goal
 pub returns-in_err-ask : goal.returns-in_err-ask
 unfolding Ends LeaseOpen
 returns-in_err-ask g c =
-    let p = err_from_is_err_and c.from-residual.result c.from-residual.ensures.1 in
+    let p = err_from_is_err_and c.from_residual.result c.from_residual.ensures.1 in
     let e = c.in_err-ask.ensures in
     let m = view c.args.self.now in
     let w = c.args.w in
@@ -36,7 +36,7 @@ returns-then-now g c =
 pub returns-in_err-remove : goal.returns-in_err-remove
 unfolding Ends
 returns-in_err-remove g c =
-    let p = err_from_is_err_and c.from-residual-in_err-remove.result c.from-residual-in_err-remove.ensures.1 in
+    let p = err_from_is_err_and c.from_residual-in_err-remove.result c.from_residual-in_err-remove.ensures.1 in
     let e = c.in_err-remove.ensures in
     let m = view c.args.self.now in
     let w = c.args.w in

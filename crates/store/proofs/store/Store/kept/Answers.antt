@@ -13,7 +13,7 @@ use Rattle.store.proofs.store.Store.kept.Goals as goal
 pub returns-in_err-i : goal.returns-in_err-i
 unfolding Keeps Placed
 returns-in_err-i g c =
-    let p = err_from_is_err_and c.from-residual.result c.from-residual.ensures.1 in
+    let p = err_from_is_err_and c.from_residual.result c.from_residual.ensures.1 in
     let e = c.in_err-i.ensures in
     let m = view c.args.self.now in
     let i = c.args.record in

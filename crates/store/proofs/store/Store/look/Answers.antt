@@ -12,7 +12,7 @@ use Rattle.store.proofs.store.Store.look.Goals as goal
 pub returns-in_err-i : goal.returns-in_err-i
 unfolding Looks Placed
 returns-in_err-i g c =
-    let p = err_from_is_err_and c.from-residual.result c.from-residual.ensures.1 in
+    let p = err_from_is_err_and c.from_residual.result c.from_residual.ensures.1 in
     let e = c.in_err-i.ensures in
     let ls = g.R.Registry.leases c.args.registry.now in
     rw (p.1, p.2) (no_such (view c.args.self.now) c.args.record (refused_lease ls c.args.writer.now.number None) e.0 ∙ ap (λ (f : StoreFault). Some f) (sym e.1), refl)
@@ -20,7 +20,7 @@ returns-in_err-i g c =
 pub returns-in_err-ask : goal.returns-in_err-ask
 unfolding Looks Placed LeaseOpen
 returns-in_err-ask g c =
-    let p = err_from_is_err_and c.from-residual-in_err-ask.result c.from-residual-in_err-ask.ensures.1 in
+    let p = err_from_is_err_and c.from_residual-in_err-ask.result c.from_residual-in_err-ask.ensures.1 in
     let ls = g.R.Registry.leases c.args.registry.now in
     let e = c.in_err-ask.ensures in
     let t = c.args.writer.now.number in

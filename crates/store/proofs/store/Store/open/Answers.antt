@@ -12,7 +12,7 @@ use Rattle.store.proofs.store.Store.open.Goals as goal
 pub returns-in_err-add : goal.returns-in_err-add
 unfolding Opens
 returns-in_err-add g c =
-    let p = err_from_is_err_and c.from-residual.result c.from-residual.ensures.1 in
+    let p = err_from_is_err_and c.from_residual.result c.from_residual.ensures.1 in
     let e = c.in_err-add.ensures in
     let cap = g.R.Registry.capacity in
     let ls = g.R.Registry.leases c.args.registry.now in
