@@ -44,14 +44,14 @@ pub fn put_fault(out: &mut String, fault: ScriptFault) -> fmt::Result
     let layer = fault.layer();
     let place = fault.place;
     let line = fault.line;
-    write!(out, "refused {number} {layer} {place} at {line}\n")
+    Ok(write!(out, "refused {number} {layer} {place} at {line}\n")?)
 }
 
 // The last line.
 pub fn put_end(out: &mut String, used: usize, leases: u32) -> fmt::Result
     ensures { OnOk result (string_bytes out.new ≡ string_bytes out.old ++ end_text used leases) }
 {
-    write!(out, "end {used} {leases}\n")
+    Ok(write!(out, "end {used} {leases}\n")?)
 }
 
 // A row that is shown.
@@ -84,19 +84,18 @@ pub fn put_outcome<K: ScriptKind>(
     ensures { OnOk result (string_bytes out.new ≡ string_bytes out.old ++ outcome_line K.ops.tells line times.now outcome) }
 {
     match outcome {
-        Outcome::Opened(time) => write!(out, "report {time}\n"),
+        Outcome::Opened(time) => Ok(write!(out, "report {time}\n")?),
         Outcome::Shown(row) => put_shown::<K>(out, row),
         Outcome::Closed => put(out, "closed\n"),
-        Outcome::Began(number) => write!(out, "writer {number}\n"),
+        Outcome::Began(number) => Ok(write!(out, "writer {number}\n")?),
         Outcome::Changed => put(out, "changed\n"),
-        Outcome::Committed(clock, count) => write!(out, "committed {clock} {count}\n"),
-        Outcome::Abandoned(count) => write!(out, "abandoned {count}\n"),
+        Outcome::Committed(clock, count) => Ok(write!(out, "committed {clock} {count}\n")?),
+        Outcome::Abandoned(count) => Ok(write!(out, "abandoned {count}\n")?),
         Outcome::Held(_) => Ok(()),
         Outcome::Kept(count) => put_kept(out, count, times),
         Outcome::InUse(_) => Ok(()),
-        Outcome::Refused(number, layer, place) => write!(
-            out,
-            "refused {number} {layer} {place} at {line}\n"
-        ),
+        Outcome::Refused(number, layer, place) => {
+            Ok(write!(out, "refused {number} {layer} {place} at {line}\n")?)
+        }
     }
 }
