@@ -7,6 +7,7 @@ use fields::Fields;
 use lease::registry::Registry;
 use slot_table::SlotTable;
 use std::process::Abort;
+use std::test::Fail;
 
 // The value behind j versions is bit j: five values, four versions at the times 8, 6, 4 and 2.
 fn value(history: u8, j: u8) -> u32

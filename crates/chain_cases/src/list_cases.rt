@@ -3,6 +3,7 @@ use crate::parts::*;
 use chain::list::{prune_list, read_list};
 use fields::Fields;
 use slot_table::SlotTable;
+use std::test::Fail;
 
 #[test]
 fn no_version(rt: HostRuntime) -> Result<(), Fail> {

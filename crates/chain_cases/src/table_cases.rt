@@ -3,6 +3,7 @@ use crate::parts::*;
 use fields::{Fields, Patch};
 use slot_table::SlotTable;
 use std::process::Abort;
+use std::test::Fail;
 use version_table::prune::{prune_behind, prune_chain};
 use version_table::table::VersionTable;
 use version_table::walk::{read_back, read_past_first, times};

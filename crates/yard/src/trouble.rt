@@ -2,7 +2,7 @@ use std::io;
 use transcript::fault::NoMemory;
 
 // What keeps the program from printing: a failed read or write, or want of memory. A script's refusals are no trouble.
-#[derive(Drop)]
+#[derive(Debug, Drop)]
 pub enum Trouble {
     Io(io::Error),
     NoMemory,
