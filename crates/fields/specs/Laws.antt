@@ -1,5 +1,5 @@
 -- Fields keep the laws of a kind: each at one attribute, then at all eight.
-use Rattle.std.specs.Prelude.{◌≡◌, ℕ, Bool, true, false, cond, ◌||◌, List, [], bit_or, slice_index, refl}
+use Rattle.std.specs.Prelude.{◌≡◌, ℕ, Bool, true, false, cond, ◌||◌, List, bit_or, slice_index, refl}
 use Rattle.std.proofs.Common.{ap, ◌∙◌}
 use Rattle.kind.specs.Kinds.{Laws}
 use Rattle.kind.proofs.Tables.{tables_alike, tables_paired}

@@ -1,5 +1,5 @@
 -- Two runs of the same calls tell the same.
-use Rattle.std.proofs.Common.{◌≡◌, ℕ, ◌<◌, ◌≤◌, List, [], ◌∷◌, map, length, sym, refl, ap, ◌∙◌, subst, arith}
+use Rattle.std.proofs.Common.{◌≡◌, ℕ, ◌<◌, List, [], ◌∷◌, length, sym, refl, ap, ◌∙◌, subst, arith}
 use mathlib.Core.Path.{fun_ext}
 use Rattle.kind.specs.Kinds.{Ops}
 use Rattle.lease.specs.Times.{opens}
@@ -10,8 +10,8 @@ use Rattle.history.specs.declared.call.Call.TheVariants.{Open as call_open, Read
 use Rattle.history.specs.declared.call.Outcome.{Outcome}
 use Rattle.history.specs.declared.call.Outcome.TheVariants.{Kept, InUse, Refused}
 use Rattle.history.specs.History.{History, Record, record_of}
-use Rattle.history.specs.Law.{Told, Asked, plain, times, Check, refuses, passes, Says, Shows, Keeps, Holds, Uses, Answers, Run}
-use Rattle.history.specs.Determined.{Sense, row, held_counts, other, sense, Determined}
+use Rattle.history.specs.Law.{Told, plain, times, Check, refuses, passes, Says, Shows, Keeps, Holds, Uses, Answers, Run}
+use Rattle.history.specs.Determined.{Sense, held_counts, sense, Determined}
 use Rattle.history.proofs.Room.{needed_one}
 
 module _ {Row Edit Change : Type 0} (k : Ops Row Edit Change) where

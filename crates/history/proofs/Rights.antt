@@ -1,8 +1,8 @@
 -- Lists that are right stay so where rows tell the same; a pruned list is no longer, and no newer.
-use Rattle.std.proofs.Common.{◌≡◌, ℕ, suc, ◌≤◌, Bool, true, false, cond, List, [], ◌∷◌, length, sym, refl, ap, ◌∙◌, arith}
+use Rattle.std.proofs.Common.{◌≡◌, ℕ, suc, ◌≤◌, Bool, true, false, cond, List, [], ◌∷◌, length, sym, ◌∙◌, arith}
 use Rattle.kind.specs.Kinds.{Ops, Laws, same}
 use Rattle.chain.specs.declared.version.Version.{Version}
-use Rattle.chain.specs.Versions.{Open, AtMost, reads, Serves, Least}
+use Rattle.chain.specs.Versions.{Open, AtMost}
 use Rattle.chain.specs.Pruning.{open_in, join_versions, prune_from, prune}
 use Rattle.chain.specs.RecordLaw.{Right}
 use Rattle.chain.proofs.Reading.{reads_alike}

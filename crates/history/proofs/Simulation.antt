@@ -3,25 +3,23 @@
 --     step_lawful         one step Keeps the tie, and its outcome is what the law Says
 --     run_more            a run and one call more at its end
 --     sim_law             a tied model has what the law Says of a store in the end
-use Rattle.std.proofs.Common.{◌≡◌, ℕ, zero, suc, ◌+◌, ◌<◌, ◌≤◌, Bool, true, false, cond, not, ◌&&◌, eqb, ltb, leb, ◌⊎◌, List, [], ◌∷◌, ◌++◌, map, length, Some, None, Option, sym, refl, ap, ◌∙◌, subst, inl, inr, true≢false, arith}
+use Rattle.std.proofs.Common.{◌≡◌, ℕ, zero, suc, ◌+◌, ◌<◌, ◌≤◌, Bool, true, false, cond, not, ◌&&◌, eqb, ltb, leb, ◌⊎◌, List, [], ◌∷◌, ◌++◌, map, length, None, Option, sym, refl, ap, ◌∙◌, subst, inl, inr, true≢false, arith}
 use mathlib.Core.Bool.{false≢true}
 use Rattle.std.proofs.lemmas.Bool.{and_parts, and_from, leb-true, leb-false, ltb-true, ltb-false, eqb-true, eqb-false, le-leb, lt-ltb, eq-eqb, ne_eqb}
 use Rattle.kind.specs.Kinds.{Ops, Laws}
 use Rattle.lease.specs.Times.{count, insert, delete, opens}
 use Rattle.lease.specs.declared.fault.Layer.{Layer}
-use Rattle.chain.specs.declared.version.Version.{Version}
 use Rattle.chain.specs.Versions.{Open}
 use Rattle.chain.specs.RecordLaw.{Right}
 use Rattle.history.specs.declared.call.Call.{Call}
 use Rattle.history.specs.declared.call.Call.TheVariants.{Open as call_open, Read as call_read, Close as call_close, Begin as call_begin, Look as call_look, Change as call_change, Commit as call_commit, Abandon as call_abandon, Held as call_held, Kept as call_kept, InUse as call_in_use}
-use Rattle.history.specs.declared.call.Outcome.{Outcome}
-use Rattle.history.specs.declared.call.Outcome.TheVariants.{Opened, Shown, Closed, Began, Changed, Committed, Abandoned, Held, Kept, InUse, Refused}
+use Rattle.history.specs.declared.call.Outcome.TheVariants.{Shown, Committed, Abandoned, Held, Kept, InUse}
 use Rattle.history.specs.declared.fault.StoreFault.{StoreFault}
 use Rattle.history.specs.declared.fault.StoreCause.TheVariants.{HeldByOther, RowNewer, VersionsUsed}
 use Rattle.history.specs.Card.{fault_number, fault_layer}
-use Rattle.history.specs.History.{Hold, free, held, Record, History, limit, who, held_by, count_held, at_or, change_at, holders, new_record, new_history, record_of, past, sees_under, change_record, finish_record, free_record, closed_at}
+use Rattle.history.specs.History.{Hold, free, held, Record, History, limit, who, held_by, count_held, at_or, change_at, holders, new_record, new_history, record_of, past, sees_under, change_record, finish_record, free_record}
 use Rattle.history.specs.Law.{Told, Asked, plain, Free, ByOther, is_held, times, EachHeld, Says, Check, refuses, passes, NoSuchRecord, NoLeaseOpen, LeasesFull, TooShort, Needed, none_needed, more_needed, Keeps, Answers, Run, AllRight, Law}
-use Rattle.history.specs.Model.{Stored, Model, Step, by_other, is_free, in_use, owners, held_number, held_from, kept_chains, or_else, no_record, no_lease, leases_used, clock_limit, list_short, refused_own, new_stored, new_model, record_at, finished_row, reading, looks, pruned, change_stored, finish_stored, free_stored, all_pruned, committed, does, decide, ends, step, outcomes, model_after, leases_after, ModelLawful}
+use Rattle.history.specs.Model.{Stored, Model, Step, by_other, is_free, in_use, owners, held_number, held_from, kept_chains, or_else, no_record, no_lease, leases_used, clock_limit, list_short, new_stored, new_model, record_at, finished_row, reading, looks, pruned, change_stored, finish_stored, free_stored, all_pruned, committed, does, decide, ends, step, outcomes, model_after, leases_after, ModelLawful}
 use Rattle.history.proofs.Counts.{insert_cases, insert-keeps, delete_sub, held_length, held_once}
 use Rattle.history.proofs.Rights.{right_row}
 use Rattle.history.proofs.Room.{map_cost, pruned_cost, finish_cost, free_cost, change_cost, new_empty, needed_one}

@@ -1,11 +1,10 @@
 -- What ties a record of the model to one of the history, and how each call keeps it.
-use Rattle.std.proofs.Common.{◌≡◌, ℕ, ◌+◌, ◌<◌, ◌≤◌, Bool, true, false, cond, eqb, leb, ◌⊎◌, List, [], ◌∷◌, sym, refl, ap, ◌∙◌, true≢false, arith}
+use Rattle.std.proofs.Common.{◌≡◌, ℕ, ◌+◌, ◌≤◌, Bool, true, false, cond, eqb, ◌⊎◌, List, ◌∷◌, sym, refl, ap, ◌∙◌, true≢false, arith}
 use mathlib.Core.Bool.{false≢true}
 use Rattle.std.proofs.lemmas.Bool.{le-leb, lt-leb}
 use Rattle.kind.specs.Kinds.{Ops, Laws}
 use Rattle.chain.specs.declared.version.Version.{Version}
 use Rattle.chain.specs.Versions.{Finished, Open, AtMost, reading}
-use Rattle.chain.specs.Pruning.{prune}
 use Rattle.chain.specs.RecordLaw.{Right}
 use Rattle.history.specs.History.{Hold, free, held, Record, past, change_record, finish_record, free_record}
 use Rattle.history.specs.Model.{Stored, finished_under, finished_row, pruned, change_stored, finish_stored, free_stored}

@@ -1,5 +1,5 @@
 -- A kind of one number, for examples. An edit sets the number, and a change has the number before, or nothing.
-use Rattle.std.specs.Prelude.{◌≡◌, ℕ, List, [], ◌∷◌, Some, None, Option, refl}
+use Rattle.std.specs.Prelude.{ℕ, [], ◌∷◌, Some, None, Option}
 use Rattle.kind.specs.Kinds.{Ops}
 
 abbrev pub back : ℕ → Option ℕ → ℕ

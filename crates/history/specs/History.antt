@@ -8,7 +8,7 @@
 --     holders rs       who holds each record
 --     count_held w hs  how many of the records w holds
 -- and the steps, named by the calls that take them.
-use Rattle.std.specs.Prelude.{◌≡◌, ℕ, zero, suc, ◌+◌, Bool, true, false, cond, List, [], ◌∷◌, map, replicate, ◌==◌, nat_lt}
+use Rattle.std.specs.Prelude.{ℕ, zero, suc, ◌+◌, Bool, false, cond, List, [], ◌∷◌, map, replicate, ◌==◌, nat_lt}
 use Rattle.kind.specs.Kinds.{Ops}
 use Rattle.lease.specs.Times.{insert, delete}
 use Rattle.chain.specs.Versions.{Finished, reading}

@@ -7,7 +7,7 @@
 --     refused-..            the first check that fails, in the order of the checks, or none
 --     changed, finished, .. the model after a call
 --     step k cap m ls n c   the call c, given a list of n places, on the model m and the open leases ls: what is told, and both after it
-use Rattle.std.specs.Prelude.{◌≡◌, ℕ, suc, ◌+◌, Bool, true, false, cond, not, ◌&&◌, List, [], ◌∷◌, map, length, replicate, Some, None, Option, ◌==◌, nat_le, nat_lt}
+use Rattle.std.specs.Prelude.{ℕ, suc, ◌+◌, Bool, true, false, cond, not, ◌&&◌, List, [], ◌∷◌, map, length, replicate, Some, None, Option, ◌==◌, nat_le, nat_lt}
 use Rattle.kind.specs.Kinds.{Ops}
 use Rattle.lease.specs.Times.{insert, delete, count, opens}
 use Rattle.lease.specs.Card.{none_open, full}
@@ -16,7 +16,6 @@ use Rattle.chain.specs.Versions.{reads}
 use Rattle.chain.specs.Pruning.{prune}
 use Rattle.history.specs.declared.call.Call.{Call}
 use Rattle.history.specs.declared.call.Call.TheVariants.{Open as call_open, Read as call_read, Close as call_close, Begin as call_begin, Look as call_look, Change as call_change, Commit as call_commit, Abandon as call_abandon, Held as call_held, Kept as call_kept, InUse as call_in_use}
-use Rattle.history.specs.declared.call.Outcome.{Outcome}
 use Rattle.history.specs.declared.call.Outcome.TheVariants.{Opened, Shown, Closed, Began, Changed, Committed, Abandoned, Held, Kept, InUse, Refused}
 use Rattle.history.specs.declared.fault.StoreCause.TheVariants.{NoRecord, HeldByOther, RowNewer, VersionsUsed, ClockLimit, ListShort}
 use Rattle.history.specs.declared.fault.StoreFault.{StoreFault}

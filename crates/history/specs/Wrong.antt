@@ -1,6 +1,6 @@
 -- Wrong stores, each with calls and what it says to them, at the kind of one number: no history fits. And one run that goes right.
 --     Wrong room calls outcomes    of 8 leases, `room` versions and one record, started at 0: the law has no run of these calls with these outcomes
-use Rattle.std.specs.Prelude.{ℕ, List, [], ◌∷◌, map, Option}
+use Rattle.std.specs.Prelude.{ℕ, List, [], ◌∷◌, map}
 use Rattle.lease.specs.declared.fault.Layer.TheVariants.{Registry as layer_r, Store as layer_b}
 use Rattle.history.specs.declared.call.Call.{Call}
 use Rattle.history.specs.declared.call.Call.TheVariants.{Open as call_open, Read as call_read, Close as call_close, Begin as call_begin, Look as call_look, Change as call_change, Commit as call_commit, Abandon as call_abandon, Held as call_held, Kept as call_kept, InUse as call_in_use}

@@ -3,7 +3,7 @@ use Rattle.std.proofs.Common.{◌≡◌, ℕ, List, [], ◌++◌, length, take, 
 use Rattle.std.proofs.lemmas.List.{take-append-drop}
 use Rattle.history.specs.declared.call.Outcome.{Outcome}
 use Rattle.history.specs.declared.fault.StoreFault.{StoreFault}
-use Rattle.history.specs.Model.{Model, Step, refusal, does, decide}
+use Rattle.history.specs.Model.{Model, Step, refusal, decide}
 use Rattle.run.specs.Steps.{Performed, Plain}
 
 module _ {Row Change : Type 0} (o : Option StoreFault) (m m' : Model Row Change) (ls ls' : List ℕ) (st : Step Row Change) (out : Outcome Row) where

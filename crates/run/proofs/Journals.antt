@@ -11,8 +11,8 @@ use Rattle.history.specs.declared.call.Call.TheVariants.{Open as call_open, Read
 use Rattle.history.specs.declared.call.Outcome.{Outcome}
 use Rattle.history.specs.declared.call.Outcome.TheVariants.{Opened, Shown, Closed, Began, Changed, Committed, Held, Kept}
 use Rattle.history.specs.declared.fault.StoreFault.{StoreFault}
-use Rattle.history.specs.History.{History, Record, new_history}
-use Rattle.history.specs.Law.{Told, Asked, plain, Run, times}
+use Rattle.history.specs.History.{Record, new_history}
+use Rattle.history.specs.Law.{Told, plain, Run, times}
 use Rattle.history.specs.Model.{Model, Step, step, decide, does, or_else, held_number, held_from, owners, list_short, no_record, record_at, reading, looks, all_pruned, begun, changed, committed, refused_open, refused_read, refused_lease, refused_begin, refused_change, refused_commit, refused_held, refused_kept, new_model, Lawful}
 use Rattle.history.proofs.Counts.{held_length}
 use Rattle.history.proofs.Refusals.{none_left}

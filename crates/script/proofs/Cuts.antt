@@ -1,8 +1,8 @@
 -- Numbers, lines and words: the steps of the loops, and what a cut at a byte gives.
-use Rattle.std.proofs.Common.{◌≡◌, ℕ, zero, suc, ◌+◌, ◌-◌, ◌*◌, ◌<◌, ◌≤◌, Bool, true, false, cond, ◌&&◌, eqb, ltb, leb, List, [], ◌∷◌, ◌++◌, length, get_or, take, drop, Some, None, Ok, Err, Option, sym, refl, ap, ◌∙◌, ⊎_elim, arith, leb-true}
+use Rattle.std.proofs.Common.{◌≡◌, ℕ, suc, ◌+◌, ◌-◌, ◌*◌, ◌<◌, ◌≤◌, true, false, cond, eqb, leb, List, [], ◌∷◌, ◌++◌, length, get_or, take, drop, Some, None, Ok, Err, Option, sym, refl, ap, ◌∙◌, ⊎_elim, arith, leb-true}
 use Rattle.std.proofs.lemmas.Bool.Decides.{nat_tests}
 use Rattle.std.proofs.lemmas.Bool.{ne_eqb, cases_lt}
-use Rattle.std.proofs.lemmas.List.{at_drop_more, at_drop_all, drop_all, drop-drop, take_all, length-drop, take-append-drop, drop_more, length-take-le, get_or-take, get_or-drop}
+use Rattle.std.proofs.lemmas.List.{drop_all, drop-drop, take_all, length-drop, take-append-drop, drop_more, length-take-le, get_or-take}
 use Rattle.script.specs.Lines.{onto, rows, lines, lines_left}
 use Rattle.script.specs.Words.{Part, words, digits, read_on, number_of, grown, words_from, words_left, over, within, judged}
 

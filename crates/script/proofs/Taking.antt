@@ -1,9 +1,9 @@
 -- Words taken off a line one after the other are those of a command, and a command's call is the line's.
-use Rattle.std.proofs.Common.{◌≡◌, ℕ, List, [], ◌∷◌, length, Some, None, Ok, Err, Option, Result, sym, refl, ap, ◌∙◌, arith}
+use Rattle.std.proofs.Common.{◌≡◌, ℕ, List, [], ◌∷◌, length, Some, None, Ok, Err, sym, refl, ap, ◌∙◌, arith}
 use Rattle.std.proofs.lemmas.Bool.{ne_eqb}
 use Rattle.history.specs.declared.call.Call.{Call}
 use Rattle.script.specs.Card.{unknown_letter_fault, bad_word_fault}
-use Rattle.script.specs.Commands.{Worded, Taken, one_taken, two_taken, four_taken, command_of, call_of_words, ended, asked, letter_of_word, known, line_command, line_call}
+use Rattle.script.specs.Commands.{Worded, one_taken, two_taken, four_taken, command_of, call_of_words, ended, asked, letter_of_word, known, line_command, line_call}
 use Rattle.script.specs.Kinds.{Terms}
 use Rattle.script.specs.Openings.{kind_of, sizes_of, with_kind, opening}
 use Rattle.script.specs.declared.opening.KindLetter.{KindLetter}

@@ -3,7 +3,7 @@ use Rattle.std.proofs.Common.{◌≡◌, ℕ, zero, suc, ◌+◌, ◌-◌, ◌<�
 use borrow.Rule.Slice.PartMut.{mid_of}
 use Rattle.std.proofs.lemmas.Bool.Decides.{nat_tests}
 use Rattle.std.proofs.lemmas.List.{length-take-le, get_or-take, length-set, get_or-set_same, set-set, set-get_or}
-use Rattle.lease.specs.Times.{insert, count, delete}
+use Rattle.lease.specs.Times.{insert, delete}
 use Rattle.lease.proofs.Bags.{delete-insert}
 use Rattle.sorted_list.specs.declared.entry.Entry.{Entry}
 use Rattle.sorted_list.specs.Entries.{many, times, size, rising, ahead, no_entry}

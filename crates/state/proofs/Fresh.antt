@@ -1,5 +1,5 @@
 -- A new store, and the length of a record's chain.
-use Rattle.std.proofs.Common.{◌≡◌, ℕ, zero, suc, ◌+◌, ◌-◌, ◌<◌, ◌≤◌, Bool, true, false, cond, ◌&&◌, eqb, ltb, List, [], ◌∷◌, ◌++◌, length, get_or, take, drop, set, replicate, Some, None, vec_items, sum_by, Option, sym, refl, ap, ◌∙◌, subst, append_assoc, append-nil, add-one, arith}
+use Rattle.std.proofs.Common.{◌≡◌, ℕ, zero, suc, ◌+◌, ◌<◌, ◌≤◌, Bool, true, false, cond, ◌&&◌, eqb, List, [], ◌∷◌, ◌++◌, length, get_or, take, drop, set, replicate, Some, None, vec_items, sum_by, Option, sym, refl, ap, ◌∙◌, append_assoc, append-nil, add-one, arith}
 use Rattle.std.proofs.lemmas.List.{at_drop_more, at_drop_all, take_more_set, drop-set-lt, drop-drop}
 use Rattle.std.proofs.lemmas.Bool.{eq-eqb, ne_eqb}
 use mathlib.Core.Bool.{false≢true}
@@ -7,7 +7,7 @@ use Rattle.chain.specs.declared.version.Version.{Version}
 use Rattle.state.specs.declared.entry.Entry.{Entry}
 use Rattle.state.specs.Matched.{backed, matched}
 use Rattle.history.specs.History.{free, held_by, who}
-use Rattle.state.specs.Stored.{stored, viewed, behind, hold_of}
+use Rattle.state.specs.Stored.{viewed, behind, hold_of}
 use Rattle.state.specs.View.{view}
 use Rattle.std.proofs.lemmas.List.Sums.{sum_by-cons}
 use Rattle.kind.specs.declared.Kind.{Ghosts}

@@ -1,5 +1,5 @@
 -- The chain of a record of a state has falling times.
-use Rattle.std.proofs.Common.{◌≡◌, ℕ, ◌<◌, true, [], length, get_or, vec_items, sym, ap, subst}
+use Rattle.std.proofs.Common.{◌≡◌, ℕ, ◌<◌, true, [], length, get_or, vec_items, subst}
 use Rattle.kind.specs.declared.Kind.{Ghosts}
 use Rattle.chain.specs.Versions.{Falling}
 use Rattle.version_table.specs.Chains.{chains}

@@ -1,6 +1,5 @@
 -- Who may change a record, as the record table says it.
-use Rattle.std.proofs.Common.{◌≡◌, ℕ, ◌<◌, ◌≤◌, Bool, true, false, cond, not, ◌&&◌, eqb, ltb, leb, List, [], ◌∷◌, length, get_or, Some, None, vec_items, sum_by, Option, sym, refl, ap, ◌∙◌, subst, true≢false, arith}
-use mathlib.Core.Bool.{false≢true}
+use Rattle.std.proofs.Common.{◌≡◌, ℕ, ◌<◌, ◌≤◌, Bool, true, false, ◌&&◌, ltb, leb, List, [], length, get_or, Some, None, vec_items, sum_by, Option, refl, ap, ◌∙◌, arith}
 use Rattle.std.proofs.lemmas.Bool.Decides.{nat_tests}
 use Rattle.kind.specs.declared.Kind.{Ghosts}
 use Rattle.kind.specs.Kinds.{Ops}
@@ -11,8 +10,8 @@ use Rattle.history.specs.declared.fault.StoreCause.TheVariants.{HeldByOther, Row
 use Rattle.state.specs.declared.entry.Entry.{Entry}
 use Rattle.state.specs.declared.state.State.{State}
 use Rattle.state.specs.Matched.{backed, Room}
-use Rattle.history.specs.Model.{Stored, Model, or_else, by_other, is_free, in_use, record_at, refused_own, new_stored}
-use Rattle.state.specs.Stored.{stored, hold_of}
+use Rattle.history.specs.Model.{Stored, or_else, by_other, is_free, in_use, refused_own, new_stored}
+use Rattle.state.specs.Stored.{hold_of}
 use Rattle.state.specs.View.{view}
 use Rattle.state.proofs.Views.{by_other_of, free_of, other_is, free_is, backed_at, in_records, view_at, view-uses}
 use Rattle.history.proofs.Refusals.{comes, passes, none_left}

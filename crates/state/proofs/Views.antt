@@ -1,5 +1,5 @@
 -- Records and chains side by side.
-use Rattle.std.proofs.Common.{◌≡◌, ℕ, zero, suc, ◌+◌, ◌<◌, ◌≤◌, Bool, true, false, cond, not, ◌&&◌, eqb, ltb, leb, List, [], ◌∷◌, map, length, get_or, drop, set, Some, None, vec_items, sum_by, Option, Vec, sym, refl, ap, ◌∙◌, subst, true≢false, add-one, arith}
+use Rattle.std.proofs.Common.{◌≡◌, ℕ, zero, suc, ◌+◌, ◌<◌, ◌≤◌, Bool, true, false, not, ◌&&◌, eqb, List, [], ◌∷◌, map, length, get_or, drop, set, Some, None, vec_items, sum_by, Option, Vec, sym, refl, ap, ◌∙◌, add-one, arith}
 use mathlib.Core.Bool.{false≢true}
 use Rattle.std.proofs.lemmas.Bool.Decides.{nat_tests}
 use Rattle.std.proofs.lemmas.List.Sums.{sum_by-cons}
@@ -16,9 +16,9 @@ use Rattle.kind.specs.Kinds.{Ops}
 use Rattle.state.specs.declared.entry.Entry.{Entry}
 use Rattle.state.specs.declared.state.State.{State}
 use Rattle.state.specs.Matched.{backed, matched, stacked}
-use Rattle.state.specs.Steps.{map_first, one_changed, first_changed}
-use Rattle.history.specs.History.{Hold, free, held, at_or, change_at}
-use Rattle.history.specs.Model.{Stored, Model, reading, pruned, all_pruned, change_stored, changed, finished_under, in_use, by_other, is_free}
+use Rattle.state.specs.Steps.{map_first}
+use Rattle.history.specs.History.{held, at_or, change_at}
+use Rattle.history.specs.Model.{Stored, reading, pruned, all_pruned, change_stored, finished_under, in_use, by_other, is_free}
 use Rattle.state.specs.Stored.{hold_of, behind, stored, viewed}
 use Rattle.state.specs.View.{view}
 use Rattle.history.specs.Law.{is_held}

@@ -1,5 +1,5 @@
 -- One record written, and each record in turn.
-use Rattle.std.proofs.Common.{◌≡◌, ℕ, zero, suc, ◌+◌, ◌<◌, ◌≤◌, Bool, true, false, cond, not, ◌&&◌, eqb, ltb, leb, List, [], ◌∷◌, map, length, get_or, drop, set, Some, None, vec_items, Option, sym, refl, ap, ◌∙◌, subst, true≢false, add-one, arith}
+use Rattle.std.proofs.Common.{◌≡◌, ℕ, zero, suc, ◌+◌, ◌<◌, ◌≤◌, Bool, true, false, cond, ◌&&◌, eqb, List, [], ◌∷◌, length, get_or, drop, set, Some, None, vec_items, Option, sym, refl, ap, ◌∙◌, add-one, arith}
 use mathlib.Core.Bool.{false≢true}
 use Rattle.std.proofs.lemmas.Bool.Decides.{nat_tests}
 use Rattle.std.proofs.lemmas.List.{at_drop_more, at_drop_all}
@@ -7,14 +7,14 @@ use Rattle.kind.specs.declared.Kind.{Ghosts}
 use Rattle.kind.specs.Kinds.{Ops}
 use Rattle.chain.specs.declared.version.Version.{Version}
 use Rattle.version_table.specs.declared.table.VersionTable.{VersionTable}
-use Rattle.version_table.specs.Chains.{chains, capacity}
+use Rattle.version_table.specs.Chains.{chains}
 use Rattle.state.specs.declared.entry.Entry.{Entry}
 use Rattle.state.specs.declared.state.State.{State}
 use Rattle.state.specs.Matched.{backed, matched, stamped, taken_back}
 use Rattle.state.specs.Steps.{map_first, one_changed, first_changed}
-use Rattle.history.specs.History.{Hold, free, held, at_or, change_at, held_by, who, count_held}
-use Rattle.history.specs.Model.{Stored, Model, held_number, owners, finish_stored, free_stored, finish_under, free_under, every}
-use Rattle.state.specs.Stored.{hold_of, behind, stored, viewed}
+use Rattle.history.specs.History.{free, held, at_or, change_at, held_by, who, count_held}
+use Rattle.history.specs.Model.{Stored, Model, held_number, owners, finish_stored, free_stored, every}
+use Rattle.state.specs.Stored.{hold_of, stored, viewed}
 use Rattle.state.specs.View.{view}
 use Rattle.state.proofs.Views.{matched-set, viewed-set, backed_at, view_at, in_records, map_more, map_all}
 

@@ -1,10 +1,9 @@
 -- One line: its refusal, or its call performed and told.
-use Rattle.std.proofs.Common.{◌≡◌, ℕ, ◌+◌, List, [], ◌∷◌, ◌++◌, length, take, drop, Ok, Err, sym, refl, ap, ◌∙◌}
+use Rattle.std.proofs.Common.{◌≡◌, ℕ, ◌+◌, List, [], ◌∷◌, ◌++◌, length, take, drop, Ok, Err, sym, ap, ◌∙◌}
 use Rattle.std.proofs.lemmas.List.{take_at, append_assoc}
 use Rattle.kind.specs.Kinds.{Ops}
 use Rattle.history.specs.declared.call.Call.{Call}
 use Rattle.history.specs.declared.call.Outcome.{Outcome}
-use Rattle.history.specs.Law.{Told}
 use Rattle.history.specs.Model.{Model, step, in_use}
 use Rattle.run.specs.Steps.{Performed}
 use Rattle.run.specs.Runs.{wrote}

@@ -3,7 +3,7 @@ use Rattle.std.proofs.Common.{◌≡◌, ℕ, ◌+◌, List, [], ◌∷◌, ◌+
 use Rattle.std.proofs.lemmas.List.{append_assoc}
 use Rattle.kind.specs.Kinds.{Ops, Laws}
 use Rattle.history.specs.declared.call.Call.{Call}
-use Rattle.history.specs.Law.{Told, Asked}
+use Rattle.history.specs.Law.{Asked}
 use Rattle.history.specs.Model.{Model, step, in_use, kept_chains, new_model, outcomes, model_after, leases_after}
 use Rattle.history.proofs.Simulation.{model_lawful}
 use Rattle.script.specs.Commands.{line_call}

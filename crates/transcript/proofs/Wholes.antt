@@ -1,14 +1,12 @@
 -- A whole transcript, from its first line on.
-use Rattle.std.proofs.Common.{◌≡◌, ℕ, ◌+◌, ◌≤◌, Bool, true, false, cond, eqb, ltb, List, [], ◌∷◌, ◌++◌, length, Some, None, Ok, Err, Option, Result, sym, refl, ap, ◌∙◌, subst, arith}
+use Rattle.std.proofs.Common.{◌≡◌, ℕ, ◌+◌, ◌≤◌, Bool, true, false, cond, eqb, List, [], ◌∷◌, length, None, Ok, sym, ap, ◌∙◌, subst, arith}
 use Rattle.std.proofs.lemmas.Bool.{le-ltb}
 use Rattle.fields.specs.Laws.{fields_laws}
 use Rattle.tallies.specs.Laws.{tallies_laws}
-use Rattle.history.specs.declared.fault.StoreFault.{StoreFault}
 use Rattle.store.specs.Making.{refused_sizes}
 use Rattle.script.specs.Kinds.{fields_terms, tallies_terms}
 use Rattle.script.specs.Lines.{onto, rows, lines, lines_left}
 use Rattle.script.specs.Openings.{opening}
-use Rattle.script.specs.declared.fault.ScriptFault.{ScriptFault}
 use Rattle.script.specs.declared.opening.KindLetter.{KindLetter}
 use Rattle.script.specs.declared.opening.KindLetter.TheVariants.{F, T}
 use Rattle.script.specs.declared.opening.RegistryLetter.{RegistryLetter}

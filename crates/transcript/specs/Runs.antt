@@ -9,7 +9,7 @@ use Rattle.kind.specs.Kinds.{Ops}
 use Rattle.chain.specs.declared.version.Version.{Version}
 use Rattle.history.specs.declared.call.Call.{Call}
 use Rattle.history.specs.Law.{Told, Asked, Law}
-use Rattle.history.specs.Model.{Model, new_model, outcomes}
+use Rattle.history.specs.Model.{new_model, outcomes}
 use Rattle.script.specs.Commands.{line_call}
 use Rattle.script.specs.Kinds.{Terms}
 use Rattle.script.specs.declared.fault.ScriptFault.{ScriptFault}

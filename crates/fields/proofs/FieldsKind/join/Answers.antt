@@ -1,4 +1,4 @@
-use Rattle.std.proofs.Common.{◌≡◌, cond, [], get_or, refl, ap, ◌∙◌, arith, rules}
+use Rattle.std.proofs.Common.{◌≡◌, cond, [], get_or, refl, ap, ◌∙◌, arith}
 use lib.Bits.{bit_or}
 use Rattle.kind.specs.Tables.{table}
 use Rattle.kind.proofs.Tables.{filling_put, filling_keep, filled, table_at, zeros_at}

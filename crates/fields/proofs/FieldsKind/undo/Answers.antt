@@ -1,5 +1,5 @@
 use Rattle.std.proofs.Common.{cond, get_or, refl, ap, arith, rules}
-use Rattle.kind.proofs.Tables.{Filling, filling_put, filling_keep, filled}
+use Rattle.kind.proofs.Tables.{filling_put, filling_keep, filled}
 use Rattle.fields.specs.Bits.{has_yes, has_no}
 use Rattle.fields.specs.Fields.{row}
 use Rattle.fields.proofs.FieldsKind.undo.Goals as goal

@@ -1,4 +1,4 @@
-use Rattle.std.proofs.Common.{◌≡◌, ap, ◌∙◌, arith, take_all, rules}
+use Rattle.std.proofs.Common.{ap, ◌∙◌, arith, take_all, rules}
 use Rattle.kind.specs.Undoing.{join_all}
 use Rattle.kind.proofs.Joins.{join_next, joined_undoes}
 use Rattle.kind.proofs.undoing.undo_joined.Goals as goal

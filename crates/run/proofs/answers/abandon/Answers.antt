@@ -1,4 +1,4 @@
-use Rattle.std.proofs.Common.{◌≡◌, sym, refl, ap, ◌∙◌, subst}
+use Rattle.std.proofs.Common.{refl, ap, ◌∙◌}
 use Rattle.lease.specs.Times.{delete, opens}
 use Rattle.history.specs.declared.call.Outcome.TheVariants.{Abandoned}
 use Rattle.history.specs.Model.{freed, held_number, all_pruned}

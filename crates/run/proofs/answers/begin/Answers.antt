@@ -1,4 +1,4 @@
-use Rattle.std.proofs.Common.{◌≡◌, sym, refl, ap, ◌∙◌, subst}
+use Rattle.std.proofs.Common.{refl, ap, ◌∙◌}
 use Rattle.history.specs.declared.call.Outcome.TheVariants.{Began}
 use Rattle.store.specs.View.{view}
 use Rattle.store.specs.Calls.{Begins}

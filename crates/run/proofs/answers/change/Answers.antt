@@ -1,4 +1,4 @@
-use Rattle.std.proofs.Common.{◌≡◌, sym, refl, ap, ◌∙◌, subst}
+use Rattle.std.proofs.Common.{sym, refl, ap, ◌∙◌}
 use Rattle.history.specs.Model.{refused_change, changed}
 use Rattle.store.specs.View.{view}
 use Rattle.store.specs.Calls.{Changes}

@@ -1,4 +1,4 @@
-use Rattle.std.proofs.Common.{◌≡◌, None, sym, refl, ap, ◌∙◌, subst}
+use Rattle.std.proofs.Common.{None, sym, refl, ap, ◌∙◌}
 use Rattle.lease.specs.Times.{delete, opens}
 use Rattle.history.specs.Model.{refused_lease, all_pruned}
 use Rattle.store.specs.View.{view}

@@ -1,4 +1,4 @@
-use Rattle.std.proofs.Common.{◌≡◌, sym, refl, ap, ◌∙◌, subst}
+use Rattle.std.proofs.Common.{sym, refl, ap, ◌∙◌}
 use Rattle.lease.specs.Times.{delete, opens}
 use Rattle.history.specs.declared.call.Outcome.TheVariants.{Committed}
 use Rattle.history.specs.Model.{refused_commit, committed, held_number, all_pruned}

@@ -1,4 +1,4 @@
-use Rattle.std.proofs.Common.{◌≡◌, length, sym, refl, ap, ◌∙◌, subst}
+use Rattle.std.proofs.Common.{length, sym, refl, ap, ◌∙◌}
 use Rattle.history.specs.declared.call.Outcome.TheVariants.{Held}
 use Rattle.history.specs.Model.{refused_held, held_number, held_from, owners}
 use Rattle.history.proofs.Counts.{held_length}

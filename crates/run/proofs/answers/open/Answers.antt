@@ -1,6 +1,5 @@
-use Rattle.std.proofs.Common.{◌≡◌, sym, refl, ap, ◌∙◌, subst}
+use Rattle.std.proofs.Common.{refl, ap, ◌∙◌}
 use Rattle.history.specs.declared.call.Outcome.TheVariants.{Opened}
-use Rattle.history.specs.Model.{refused_open}
 use Rattle.store.specs.View.{view}
 use Rattle.store.specs.Calls.{Opens}
 use Rattle.run.proofs.Decisions.{plain_ok, plain_no}

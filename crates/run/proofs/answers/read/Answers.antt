@@ -1,4 +1,4 @@
-use Rattle.std.proofs.Common.{◌≡◌, sym, refl, ap, ◌∙◌, subst}
+use Rattle.std.proofs.Common.{sym, refl, ap, ◌∙◌}
 use Rattle.history.specs.declared.call.Outcome.TheVariants.{Shown}
 use Rattle.history.specs.Model.{reading, record_at, refused_read}
 use Rattle.store.specs.View.{view}

@@ -1,8 +1,7 @@
-use Rattle.std.proofs.Common.{◌≡◌, ℕ, ◌+◌, ◌<◌, ◌≤◌, length, drop, sym, refl, ap, ◌∙◌, subst, subst₂, arith, rules}
-use Rattle.history.specs.Model.{Lawful, step, new_model}
+use Rattle.std.proofs.Common.{◌+◌, ◌<◌, ◌≤◌, length, sym, ◌∙◌, arith, rules}
+use Rattle.history.specs.Model.{new_model}
 use Rattle.store.specs.Making.{fresh_records, fresh_versions}
 use Rattle.store.specs.View.{view}
-use Rattle.run.specs.Runs.{wrote, asked_from, told_from}
 use borrow.Rule.Slice.PartAt.{part_to_end}
 use Rattle.run.proofs.Journals.{new_again, written_behind, sofar_start, sofar_next, sofar_law, rest_as_it_was}
 use Rattle.run.proofs.journal.run.Goals as goal

@@ -1,4 +1,4 @@
-use Rattle.std.proofs.Common.{◌≡◌, length, sym, refl, ap, subst}
+use Rattle.std.proofs.Common.{length, sym, refl, ap, subst}
 use Rattle.history.specs.declared.call.Call.{Call}
 use Rattle.history.specs.declared.call.Outcome.TheVariants.{InUse}
 use Rattle.history.specs.Model.{step}

@@ -1,4 +1,4 @@
-use Rattle.std.proofs.Common.{◌≤◌, arith, rules}
+use Rattle.std.proofs.Common.{rules}
 use Rattle.script.specs.Spans.{part}
 use Rattle.script.proofs.Cuts.{judged_bound}
 use Rattle.script.proofs.command.judge_time.Goals as goal

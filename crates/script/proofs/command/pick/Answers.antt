@@ -1,7 +1,7 @@
-use Rattle.std.proofs.Common.{◌≡◌, ℕ, ◌≢◌, length, sym, refl, ap, ◌∙◌, arith}
+use Rattle.std.proofs.Common.{length, sym, refl, ap, ◌∙◌, arith}
 use Rattle.script.specs.Commands.{command_of, w_read, w_close, w_look, w_change, w_commit, w_abandon, w_kept}
 use Rattle.script.specs.Words.{words_left}
-use Rattle.script.proofs.Taking.{Off, one_off, two_off, four_off, none_known}
+use Rattle.script.proofs.Taking.{one_off, two_off, four_off, none_known}
 use Rattle.script.proofs.command.pick.Goals as goal
 
 pub returns-in-o : goal.returns-in-o

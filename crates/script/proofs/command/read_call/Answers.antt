@@ -1,4 +1,4 @@
-use Rattle.std.proofs.Common.{◌≡◌, Err, sym, ap, ◌∙◌}
+use Rattle.std.proofs.Common.{Err, sym, ap, ◌∙◌}
 use Rattle.script.specs.Parts.{tell}
 use Rattle.script.specs.Words.{words_left}
 use Rattle.script.proofs.Taking.{from_start, call_none, call_bad, call_more, call_done}

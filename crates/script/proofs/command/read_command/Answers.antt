@@ -1,7 +1,7 @@
-use Rattle.std.proofs.Common.{◌≡◌, sym, ◌∙◌, subst}
+use Rattle.std.proofs.Common.{sym, ◌∙◌, subst}
 use Rattle.script.specs.Parts.{Commanded}
 use Rattle.script.specs.Words.{words_left}
-use Rattle.script.proofs.Taking.{Off, line_known, line_unknown}
+use Rattle.script.proofs.Taking.{line_known, line_unknown}
 use Rattle.script.proofs.command.read_command.Goals as goal
 
 pub returns-in-Some : goal.returns-in-Some

@@ -1,4 +1,4 @@
-use Rattle.std.proofs.Common.{◌≡◌, Err, sym, ap, ◌∙◌}
+use Rattle.std.proofs.Common.{Err, sym, ap, ◌∙◌}
 use Rattle.script.specs.Commands.{ended}
 use Rattle.script.specs.Words.{words_left}
 use Rattle.script.proofs.Taking.{opens_unknown, opens-known, ended_more, ended_done}

@@ -1,4 +1,4 @@
-use Rattle.std.proofs.Common.{◌≡◌, cond, leb, Ok, Err, sym, refl, ap, ◌∙◌, arith}
+use Rattle.std.proofs.Common.{cond, Ok, Err, sym, ap, ◌∙◌}
 use Rattle.std.proofs.lemmas.Bool.{le-leb, lt-leb}
 use Rattle.script.specs.Words.{judged, within}
 use Rattle.script.proofs.words.judge.Goals as goal

@@ -1,5 +1,4 @@
 use Rattle.std.proofs.Common.{length, ap, arith}
-use Rattle.slot_table.specs.Slots.{taken}
 use Rattle.slot_table.proofs.Filling.{taken_all, length-full, length_empty}
 use Rattle.slot_table.proofs.scan.held.Goals as goal
 use Rattle.slot_table.proofs.scan.held.Goals.{then-is_some, else-is_some}

@@ -1,4 +1,4 @@
-use Rattle.std.proofs.Common.{◌-◌, ◌≤◌, length, take, sym, refl, ap, ◌∙◌, arith}
+use Rattle.std.proofs.Common.{◌≤◌, length, take, sym, refl, ap, ◌∙◌, arith}
 use Rattle.sorted_list.specs.Entries.{times, size, rising, absent}
 use Rattle.sorted_list.proofs.Places.{mid_all}
 use Rattle.sorted_list.proofs.Meaning.{count-absent}

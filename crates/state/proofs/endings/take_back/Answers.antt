@@ -1,4 +1,4 @@
-use Rattle.std.proofs.Common.{◌≡◌, [], get_or, drop, set, sym, refl, ap, ◌∙◌}
+use Rattle.std.proofs.Common.{[], drop, set, sym, ap, ◌∙◌}
 use Rattle.std.proofs.lemmas.List.{set-get_or}
 use Rattle.version_table.specs.Chains.{chains}
 use Rattle.state.specs.Matched.{taken_back}

@@ -1,4 +1,4 @@
-use Rattle.std.proofs.Common.{◌≡◌, sym, ◌∙◌, arith}
+use Rattle.std.proofs.Common.{sym, ◌∙◌, arith}
 use Rattle.store.specs.Calls.{LeaseOpen}
 use Rattle.store.proofs.checks.ask.Goals as goal
 

@@ -1,4 +1,4 @@
-use Rattle.std.proofs.Common.{◌≡◌, ◌+◌, [], ◌∷◌, ◌++◌, length, string_bytes, sym, refl, ap, ◌∙◌, arith}
+use Rattle.std.proofs.Common.{◌+◌, ◌++◌, length, string_bytes, ap, ◌∙◌, arith}
 use Rattle.history.specs.Model.{new_model}
 use Rattle.store.specs.View.{view}
 use Rattle.transcript.specs.Printing.{print_lines, left}

@@ -1,4 +1,4 @@
-use Rattle.std.proofs.Common.{◌≡◌, ◌<◌, ◌≤◌, length, get_or, string_bytes, sym, refl, ◌∙◌, arith}
+use Rattle.std.proofs.Common.{◌<◌, ◌≤◌, length, string_bytes, sym, arith}
 use Rattle.transcript.proofs.Spaces.{spaced_more, spaced_all}
 use Rattle.transcript.proofs.text.put_row.Goals as goal
 

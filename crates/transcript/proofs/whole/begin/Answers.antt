@@ -1,4 +1,4 @@
-use Rattle.std.proofs.Common.{◌≡◌, ◌+◌, ◌++◌, string_bytes, ap, ◌∙◌}
+use Rattle.std.proofs.Common.{◌+◌, ◌++◌, string_bytes, ap, ◌∙◌}
 use Rattle.transcript.specs.Printing.{left}
 use Rattle.transcript.specs.Transcripts.{print_by}
 use Rattle.transcript.proofs.Wholes.{begun}

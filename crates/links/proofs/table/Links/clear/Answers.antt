@@ -1,6 +1,6 @@
 use Rattle.std.proofs.Common.{◌≡◌, ◌<◌, [], length, get_or, drop, set, sym, refl, ap, ◌∙◌, arith}
 use Rattle.std.proofs.lemmas.List.{set-get_or, length-set}
-use Rattle.links.specs.Meaning.{slots, size}
+use Rattle.links.specs.Meaning.{slots}
 use Rattle.links.proofs.Ways.{set_again}
 use Rattle.links.proofs.Places.{row_in_range}
 use Rattle.links.proofs.table.Links.clear.Goals as goal

@@ -1,7 +1,7 @@
-use Rattle.std.proofs.Common.{◌≡◌, ℕ, ◌+◌, ◌-◌, ◌<◌, ◌≤◌, List, [], ◌∷◌, length, get_or, take, drop, sym, refl, ap, ◌∙◌, arith}
+use Rattle.std.proofs.Common.{◌≡◌, ℕ, ◌-◌, ◌≤◌, List, ◌∷◌, length, take, drop, sym, refl, ap, ◌∙◌, arith}
 use Rattle.script.specs.declared.reader.Reader.{Reader}
-use Rattle.std.proofs.lemmas.List.{take_rest, drop-drop, drop_all, take_all, length-drop}
-use Rattle.script.specs.Lines.{lines_left, rows, lines}
+use Rattle.std.proofs.lemmas.List.{take_rest}
+use Rattle.script.specs.Lines.{lines_left}
 use Rattle.script.proofs.Cuts.{none_left, cut_step, end_step}
 use Rattle.script.proofs.reader.Reader.next_line.Goals as goal
 use Rattle.script.proofs.reader.Reader.next_line.Goals.{then-n-rest, else-n-rest, else-self-via-then-self+else-self-gt0, else-self-via-else-self}

@@ -1,6 +1,6 @@
-use Rattle.std.proofs.Common.{◌≡◌, ℕ, ◌+◌, ◌-◌, ◌<◌, ◌≤◌, [], ◌∷◌, length, take, drop, sym, refl, ap, ◌∙◌, arith}
+use Rattle.std.proofs.Common.{◌≡◌, ◌-◌, [], length, take, drop, sym, refl, ap, ◌∙◌, arith}
 use Rattle.std.proofs.lemmas.List.{take_rest, drop_all}
-use Rattle.script.specs.Words.{words_left, first, rest}
+use Rattle.script.specs.Words.{first, rest}
 use Rattle.script.proofs.Cuts.{past_words, word_step}
 use Rattle.script.proofs.words.Words.next_word.Goals as goal
 

@@ -1,13 +1,13 @@
-use Rattle.std.proofs.Common.{◌≡◌, true, leb, [], length, get_or, drop, set, Some, None, vec_items, sym, refl, ap, ◌∙◌, subst, arith, length-set}
-use Rattle.version_table.specs.Chains.{chains, capacity}
-use Rattle.state.specs.Matched.{stamped, taken_back}
+use Rattle.std.proofs.Common.{◌≡◌, true, leb, [], get_or, set, None, vec_items, sym, refl, ap, ◌∙◌, subst, arith, length-set}
+use Rattle.version_table.specs.Chains.{chains}
+use Rattle.state.specs.Matched.{stamped}
 use Rattle.state.specs.declared.entry.Entry.{Entry}
-use Rattle.state.specs.Stored.{stored, viewed, all_fall}
+use Rattle.state.specs.Stored.{viewed, all_fall}
 use Rattle.state.specs.View.{view}
-use Rattle.history.specs.Model.{finish_stored, free_stored, new_stored}
+use Rattle.history.specs.Model.{finish_stored, new_stored}
 use Rattle.state.proofs.Views.{in_records, in_table}
 use Rattle.state.proofs.Falls.{all_changed, finish_keeps}
-use Rattle.state.proofs.Writes.{there, write_sound, write_view, unwritten, finish_one, finish_other, free_one, free_other, not_by, not_by_none}
+use Rattle.state.proofs.Writes.{there, write_sound, write_view, unwritten, finish_one, finish_other, not_by, not_by_none}
 use Rattle.state.proofs.state.State.finish.Goals as goal
 
 pub index-entry-requires : goal.index-entry-requires

@@ -1,4 +1,4 @@
-use Rattle.std.proofs.Common.{◌≡◌, ◌+◌, ◌<◌, cond, vec_items, sym, refl, ap, ◌∙◌, subst, arith, rules}
+use Rattle.std.proofs.Common.{◌≡◌, ◌+◌, cond, vec_items, sym, refl, ap, ◌∙◌, arith, rules}
 use Rattle.version_table.specs.Chains.{chains}
 use Rattle.state.specs.Stored.{viewed}
 use Rattle.state.proofs.Falls.{all_mono}

@@ -1,6 +1,6 @@
 use Rattle.std.proofs.Common.{refl, arith}
 use Rattle.state.specs.View.{view}
-use Rattle.history.specs.Model.{finish_stored, free_stored}
+use Rattle.history.specs.Model.{free_stored}
 use Rattle.state.proofs.Views.{view-rows}
 use Rattle.state.proofs.Writes.{still_there, one_more, all_done}
 use Rattle.state.proofs.state.State.free_all.Goals as goal

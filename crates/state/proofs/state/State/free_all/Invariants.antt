@@ -1,6 +1,6 @@
 use Rattle.std.proofs.Common.{◌≡◌}
 use Rattle.state.specs.View.{view}
-use Rattle.history.specs.Model.{finish_stored, free_stored}
+use Rattle.history.specs.Model.{free_stored}
 use Rattle.state.specs.Steps.{first_changed}
 use Rattle.state.proofs.state.State.free_all.Given as goal
 

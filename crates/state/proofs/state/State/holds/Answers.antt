@@ -1,5 +1,5 @@
-use Rattle.std.proofs.Common.{◌≡◌, ℕ, ◌+◌, ◌<◌, ◌≤◌, length, drop, vec_items, sym, arith}
-use Rattle.state.proofs.Writes.{count_mine, mine, count_next, count_end, mine_yes, mine_no, mine_none, view-counts}
+use Rattle.std.proofs.Common.{◌≡◌, ◌+◌, ◌<◌, ◌≤◌, length, vec_items, arith}
+use Rattle.state.proofs.Writes.{mine, count_next, count_end, mine_yes, mine_no, mine_none, view-counts}
 use Rattle.state.proofs.state.State.holds.Goals.{in-Some+then-v-w, in-Some+else-v-w, in_default}
 use Rattle.state.proofs.state.State.holds.Goals as goal
 

@@ -1,7 +1,6 @@
-use Rattle.std.proofs.Common.{◌≡◌, true, false, cond, [], get_or, sym, refl, ap, ◌∙◌, subst, arith}
+use Rattle.std.proofs.Common.{◌≡◌, false, cond, [], get_or, sym, ap, ◌∙◌, arith}
 use Rattle.version_table.specs.Chains.{chains}
 use Rattle.state.specs.Stored.{stored, hold_of}
-use Rattle.state.specs.View.{view}
 use Rattle.history.specs.Model.{looks, reading, new_stored, free_stored}
 use Rattle.history.specs.History.{held_by}
 use Rattle.state.proofs.Views.{in_records, view_at}

@@ -1,7 +1,7 @@
-use Rattle.std.proofs.Common.{◌≡◌, Bool, true, false, ◌&&◌, Some, None, sym, refl, ap, ◌∙◌, subst, arith}
-use Rattle.state.specs.View.{view, Owned}
+use Rattle.std.proofs.Common.{◌≡◌, false, ◌&&◌, sym, ap, ◌∙◌, arith}
+use Rattle.state.specs.View.{Owned}
 use Rattle.state.proofs.Views.{in_records, by_other_of, free_of}
-use Rattle.state.proofs.Owners.{own_of, own_is, full_up, own_five, own_six, own_seven, own_fine, not_mine, is_mine}
+use Rattle.state.proofs.Owners.{own_is, full_up, own_five, own_six, own_seven, own_fine, not_mine, is_mine}
 use Rattle.state.proofs.state.State.may_change.Goals.{in-Some+else-v-w, in-None, else-free-via-then-free+else-is_full, else-free-via-else-free}
 use Rattle.state.proofs.state.State.may_change.Goals as goal
 

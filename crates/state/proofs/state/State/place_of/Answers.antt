@@ -1,4 +1,4 @@
-use Rattle.std.proofs.Common.{◌≡◌, sym, refl, ◌∙◌, arith}
+use Rattle.std.proofs.Common.{refl, arith}
 use Rattle.state.specs.View.{Placed}
 use Rattle.state.proofs.Views.{view-rows}
 use Rattle.state.proofs.state.State.place_of.Goals as goal

@@ -1,12 +1,11 @@
-use Rattle.std.proofs.Common.{◌≡◌, ◌+◌, ◌<◌, ◌≤◌, [], length, get_or, set, Some, None, vec_items, sym, refl, ap, ◌∙◌, subst, arith}
+use Rattle.std.proofs.Common.{◌+◌, ◌<◌, [], length, get_or, set, vec_items, sym, ap, ◌∙◌, subst, arith}
 use Rattle.version_table.specs.Chains.{chains}
 use Rattle.lease.specs.Times.{opens}
 use Rattle.state.specs.declared.state.State.{State}
 use Rattle.history.specs.Model.{pruned}
 use Rattle.state.specs.Stored.{viewed, all_fall}
 use Rattle.state.proofs.Falls.{all_changed, prune-keeps}
-use Rattle.state.proofs.Views.{SweptTo, swept, swept_view, sweep_sound, sweep_step, sweep_end, rows_alike}
-use Rattle.state.proofs.state.State.prune_all.Given as given
+use Rattle.state.proofs.Views.{SweptTo, swept, swept_view, sweep_sound, sweep_step, sweep_end}
 use Rattle.state.proofs.state.State.prune_all.Goals.{in-None, in-Some}
 use Rattle.state.proofs.state.State.prune_all.Goals as goal
 

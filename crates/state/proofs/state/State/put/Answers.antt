@@ -1,4 +1,4 @@
-use Rattle.std.proofs.Common.{◌≡◌, leb, [], length, get_or, vec_items, sum_by, sym, refl, ap, ◌∙◌, subst, arith, length-set}
+use Rattle.std.proofs.Common.{leb, [], length, get_or, vec_items, sum_by, sym, ap, ◌∙◌, arith, length-set}
 use Rattle.version_table.specs.Chains.{chains, capacity}
 use Rattle.state.specs.View.{view}
 use Rattle.history.specs.Model.{change_stored}

@@ -1,8 +1,7 @@
-use Rattle.std.proofs.Common.{◌≡◌, [], get_or, drop, sym, refl, ap, ◌∙◌, subst, arith}
+use Rattle.std.proofs.Common.{◌≡◌, [], get_or, drop, sym, ap, ◌∙◌, subst, arith}
 use Rattle.chain.specs.Versions.{Falling, reads}
 use Rattle.version_table.specs.Chains.{chains}
 use Rattle.state.specs.Stored.{behind, stored}
-use Rattle.state.specs.View.{view}
 use Rattle.history.specs.Model.{reading, new_stored}
 use Rattle.state.proofs.Views.{in_records, view_at, read_free, read_held, read_bare}
 use Rattle.state.proofs.Order.{chain_falls}

@@ -1,9 +1,6 @@
-use Rattle.std.proofs.Common.{◌≡◌, ℕ, ◌<◌, ◌≤◌, ltb, List, [], length, get_or, drop, Some, None, sym, refl, ap, ◌∙◌, subst, arith, rules}
-use Rattle.version_table.specs.Chains.{chains, Listed}
-use Rattle.chain.specs.declared.version.Version.{Version}
-use Rattle.state.specs.Stored.{stored}
-use Rattle.state.specs.View.{view, Placed}
-use Rattle.history.specs.Model.{Stored, record_at, new_stored, free_stored, or_else}
+use Rattle.std.proofs.Common.{[], length, get_or, sym, ap, ◌∙◌, arith}
+use Rattle.version_table.specs.Chains.{chains}
+use Rattle.history.specs.Model.{Stored, new_stored, free_stored}
 use Rattle.state.proofs.Views.{in_records, view_at}
 use Rattle.state.proofs.Writes.{there}
 use Rattle.state.proofs.Fresh.{behind_none, behind_some, one_fewer}

@@ -1,12 +1,7 @@
-use Rattle.std.proofs.Common.{◌≡◌, ℕ, ◌+◌, ◌<◌, ◌≤◌, ltb, List, ◌++◌, length, take, drop, set, Some, None, vec_items, sym, refl, ap, ◌∙◌, subst, arith, rules}
-use Rattle.version_table.specs.Chains.{chains}
-use Rattle.history.specs.declared.fault.StoreCause.TheVariants.{ListShort}
-use Rattle.history.specs.declared.fault.StoreFault.{StoreFault}
+use Rattle.std.proofs.Common.{◌≡◌, ℕ, ◌+◌, ◌<◌, ◌≤◌, List, ◌++◌, length, take, drop, vec_items, sym, ◌∙◌, subst, arith, rules}
 use Rattle.state.specs.View.{view}
-use Rattle.history.specs.Model.{held_number}
-use Rattle.state.proofs.Writes.{count_mine, mine, count_next, count_end, mine_yes, mine_no, mine_none, view-counts}
+use Rattle.state.proofs.Writes.{count_next, count_end, mine_yes, mine_no, mine_none, view-counts}
 use Rattle.state.proofs.Fresh.{rows_mine, view_held, turn_yes, turn_no, turn_none, turns_end}
-use Rattle.state.proofs.state.State.write_held.Given as given
 use Rattle.state.proofs.state.State.write_held.Goals.{in-Some+then-v-w, in-Some+else-v-w, in_default}
 use Rattle.state.proofs.state.State.write_held.Goals as goal
 

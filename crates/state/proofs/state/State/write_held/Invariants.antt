@@ -1,4 +1,4 @@
-use Rattle.std.proofs.Common.{◌≡◌, ◌+◌, ◌≤◌, ◌++◌, length, take, drop, vec_items}
+use Rattle.std.proofs.Common.{◌≡◌, ◌+◌, ◌++◌, take, drop, vec_items}
 use Rattle.state.proofs.Writes.{count_mine}
 use Rattle.state.proofs.Fresh.{rows_mine}
 use Rattle.state.proofs.state.State.write_held.Given as goal

@@ -1,4 +1,4 @@
-use Rattle.std.proofs.Common.{◌≡◌, List, [], length, get_or, sym, ap, ◌∙◌, subst, arith}
+use Rattle.std.proofs.Common.{List, [], length, get_or, sym, ap, ◌∙◌, subst, arith}
 use Rattle.version_table.specs.Chains.{chains, Listed}
 use Rattle.chain.specs.declared.version.Version.{Version}
 use Rattle.history.specs.Model.{Stored, new_stored}

@@ -1,4 +1,4 @@
-use Rattle.std.proofs.Common.{◌≡◌, length, vec_items, sum_by, sym, ap, ◌∙◌, arith}
+use Rattle.std.proofs.Common.{length, sum_by, sym, ap, ◌∙◌, arith}
 use lib.ListN.{length-replicate}
 use Rattle.std.proofs.lemmas.Bool.{le-leb}
 use Rattle.chain.specs.declared.version.Version.{Version}

@@ -1,4 +1,4 @@
-use Rattle.std.proofs.Common.{◌≡◌, suc, ◌<◌, leb, List, [], ◌++◌, length, drop, set, replicate, None, vec_items, sym, ap, ◌∙◌, add-one, arith}
+use Rattle.std.proofs.Common.{◌≡◌, ◌<◌, leb, ◌++◌, length, drop, set, replicate, None, vec_items, sym, ap, ◌∙◌, add-one, arith}
 use lib.ListN.{length-replicate}
 use Rattle.version_table.specs.Chains.{chains, capacity}
 use Rattle.state.specs.declared.entry.Entry.{Entry}
@@ -25,8 +25,12 @@ invariant_of-result g c =
     let v : Entry g.row.K-Row.Denot = record { row = g.K.Kind.ops.blank; last = c.args.start; holder = None } in
     let done : c.loop-i.i ≡ n = omega (arith, c.args.self.records.ok.0, c.loop-i-test.false, c.len-i-end.ensures) in
     let rs = blank_end v xs (vec_items c.loop-i.records) c.loop-i.i c.loop-i.invariant done in
-    let cs = all_unused (chains c.args.self.table) n c.args.self.unused c.args.self.paired in record { sound = ap (λ z. matched z (chains c.args.self.table)) rs ∙ ap (matched (replicate n v)) cs ∙ fresh_sound g.row.K-Change.Denot g.K.Kind.ops.blank c.args.start n; falling = ap (all_fall c.args.start) (ap (λ z. viewed z (chains c.args.self.table)) rs ∙ ap (viewed (replicate n v)) cs ∙ fresh_view g.row.K-Change.Denot g.K.Kind.ops.blank c.args.start n)
-            ∙ new_falls g.K.Kind.ops c.args.start c.args.start n; few = ap (λ z. leb (length z) 4096) rs ∙ ap (λ z. leb z 4096) (length-replicate n v) ∙ c.args.self.few }
+    let cs = all_unused (chains c.args.self.table) n c.args.self.unused c.args.self.paired in record {
+      sound = ap (λ z. matched z (chains c.args.self.table)) rs ∙ ap (matched (replicate n v)) cs ∙ fresh_sound g.row.K-Change.Denot g.K.Kind.ops.blank c.args.start n;
+      falling = ap (all_fall c.args.start) (ap (λ z. viewed z (chains c.args.self.table)) rs ∙ ap (viewed (replicate n v)) cs ∙ fresh_view g.row.K-Change.Denot g.K.Kind.ops.blank c.args.start n)
+          ∙ new_falls g.K.Kind.ops c.args.start c.args.start n;
+      few = ap (λ z. leb (length z) 4096) rs ∙ ap (λ z. leb z 4096) (length-replicate n v) ∙ c.args.self.few;
+    }
 
 pub returns : goal.returns
 unfolding view

@@ -1,4 +1,4 @@
-use Rattle.std.proofs.Common.{◌≡◌, ◌++◌, length, drop, replicate, None, vec_items}
+use Rattle.std.proofs.Common.{◌≡◌, ◌++◌, drop, replicate, None, vec_items}
 use Rattle.state.proofs.tables.Tables.start.Given as goal
 
 -- the records below i are blank, and those behind are as they were

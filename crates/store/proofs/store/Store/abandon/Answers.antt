@@ -1,4 +1,4 @@
-use Rattle.std.proofs.Common.{◌≡◌, ap, ◌∙◌}
+use Rattle.std.proofs.Common.{ap, ◌∙◌}
 use Rattle.lease.specs.Times.{delete, opens}
 use Rattle.history.specs.Model.{held_number, all_pruned, freed}
 use Rattle.history.proofs.Refusals.{removed_if}
