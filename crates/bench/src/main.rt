@@ -16,7 +16,7 @@ use drive::Drive;
 use fields::Fields;
 use lease::registry::Registry;
 use plan::Phase;
-use settings::{Settings, settings};
+use settings::{Settings, read_settings};
 use slot_table::SlotTable;
 use sorted_list::SortedList;
 use std::io;
@@ -51,7 +51,7 @@ fn run_phase<K: Subject>(rt: &HostRuntime, set: &Settings, phase: Phase) -> io::
 }
 
 fn main(rt: HostRuntime) -> io::Result<()> {
-    let Some(set) = settings(&rt)? else {
+    let Some(set) = read_settings(&rt)? else {
         return println!(rt; "usage: bench RECORDS VERSIONS ROUNDS SEED PHASE.. [time]");
     };
     for phase in set.phases.iter() {

@@ -66,13 +66,19 @@ impl Phase {
     // What a round of the phase draws, at so many records; none where the phase has no rounds of this sort.
     pub(crate) fn plan(self, records: u64) -> Option<Plan> {
         match self {
-            Phase::Mixed => Some(plan((8, 10), 2, None, hot(records, 16), (2, 2))),
-            Phase::Whole => Some(plan((8, 10), 2, Some(Style::Whole), hot(records, 16), (1, 1))),
-            Phase::Back => Some(plan((8, 10), 2, Some(Style::Back), hot(records, 64), (1, 1))),
-            Phase::Contend => Some(plan((8, 10), 4, None, hot(records, 512), (6, 4))),
+            Phase::Mixed => Some(make_plan((8, 10), 2, None, hot(records, 16), (2, 2))),
+            Phase::Whole => Some(make_plan(
+                (8, 10),
+                2,
+                Some(Style::Whole),
+                hot(records, 16),
+                (1, 1),
+            )),
+            Phase::Back => Some(make_plan((8, 10), 2, Some(Style::Back), hot(records, 64), (1, 1))),
+            Phase::Contend => Some(make_plan((8, 10), 4, None, hot(records, 512), (6, 4))),
             Phase::Fill => {
                 let pace = (records / 32 + 1, records / 24 + 1);
-                Some(plan(pace, 2, None, records, (1, 1)))
+                Some(make_plan(pace, 2, None, records, (1, 1)))
             }
             _ => None,
         }
@@ -87,7 +93,13 @@ fn hot(records: u64, divisor: u64) -> u64 {
     (records / divisor).saturating_add(1).min(records)
 }
 
-fn plan(pace: (u64, u64), writers: u64, style: Option<Style>, hot: u64, ends: (u64, u64)) -> Plan {
+fn make_plan(
+    pace: (u64, u64),
+    writers: u64,
+    style: Option<Style>,
+    hot: u64,
+    ends: (u64, u64),
+) -> Plan {
     Plan {
         open: pace.0,
         close: pace.1,

@@ -49,7 +49,7 @@ fn phases(heap: Global, words: &mut env::Args) -> io::Result<Option<(Vec<Phase>,
 }
 
 // The settings; none where the words are others than they should be.
-pub(crate) fn settings(rt: &HostRuntime) -> io::Result<Option<Settings>> {
+pub(crate) fn read_settings(rt: &HostRuntime) -> io::Result<Option<Settings>> {
     let mut words = env::args(rt)?;
     let _program = words.next();
     let (Some(records), Some(versions)) = (number(words.next()), number(words.next())) else {
