@@ -39,8 +39,8 @@ pub record Figures : Type 0 where
   pub wrapped : tallies_ops.join (counts (5 ∷ 0 ∷ 0 ∷ 0 ∷ [])) (counts ((2 ^ 64 - 3) ∷ 0 ∷ 0 ∷ 0 ∷ [])) ≡ counts (2 ∷ 0 ∷ 0 ∷ 0 ∷ [])
   -- open 5; open 4, 6; open 3, 3, 8
   pub at_5 : rows (5 ∷ []) ≡ version 9 (sets 0 20) ∷ []
-  pub at-4-6 : rows (4 ∷ 6 ∷ []) ≡ version 9 (sets 0 30) ∷ version 6 (sets 0 20) ∷ []
-  pub at-3-3-8 : rows (3 ∷ 3 ∷ 8 ∷ []) ≡ version 9 (sets 0 30) ∷ version 6 (sets 0 10) ∷ []
+  pub at_4_6 : rows (4 ∷ 6 ∷ []) ≡ version 9 (sets 0 30) ∷ version 6 (sets 0 20) ∷ []
+  pub at_3_3_8 : rows (3 ∷ 3 ∷ 8 ∷ []) ≡ version 9 (sets 0 30) ∷ version 6 (sets 0 10) ∷ []
   -- open 5: a chain that leads back to where it began; open 5, 7: both of its versions
   pub returned : returning (5 ∷ []) ≡ []
   pub apart : returning (5 ∷ 7 ∷ []) ≡ version 9 (sets 3 87) ∷ version 6 (sets 3 85) ∷ []

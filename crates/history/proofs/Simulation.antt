@@ -1,8 +1,8 @@
 -- The model and the history, call by call, and any run of calls.
 --     Sim room m ls fs    the model m, with the leases ls, is tied to the history whose records are fs
---     step_lawful         one step Keeps the tie, and its outcome is what the law Says
+--     step_lawful         one step keeps the tie, and its outcome is what the law says
 --     run_more            a run and one call more at its end
---     sim_law             a tied model has what the law Says of a store in the end
+--     sim_law             a tied model has what the law says of a store in the end
 use Rattle.std.proofs.Common.{◌≡◌, ℕ, zero, suc, ◌+◌, ◌<◌, ◌≤◌, Bool, true, false, cond, not, ◌&&◌, eqb, ltb, leb, ◌⊎◌, List, [], ◌∷◌, ◌++◌, map, length, None, Option, sym, refl, ap, ◌∙◌, subst, inl, inr, true≢false, arith}
 use mathlib.Core.Bool.{false≢true}
 use Rattle.std.proofs.lemmas.Bool.{and_parts, and_from, leb-true, leb-false, ltb-true, ltb-false, eqb-true, eqb-false, le-leb, lt-ltb, eq-eqb, ne_eqb}
@@ -393,7 +393,7 @@ module _ {Row Edit Change : Type 0} (k : Ops Row Edit Change) where
           let rest = ran cs st.model st.leases one.records one.sim in
           record { records = rest.records; run = (hist st.model st.leases one.records, one.fact, rest.run); sim = rest.sim }
 
-      -- a tied model has what the law Says of a store in the end
+      -- a tied model has what the law says of a store in the end
       pub sim_law : (n start : ℕ) (calls : List (Asked Edit)) (outs : List (Told Row)) (m : Model Row Change) (ls : List ℕ) (fs : List (Record Row)) → Sim room m ls fs → Run k cap room (new_history k start n) calls outs (hist m ls fs) → Law k cap room n start calls outs m.clock ls (kept_chains m.records) (in_use m.records)
       sim_law n start calls outs m ls fs z r =
           record {

@@ -8,7 +8,7 @@
 --     Answers h given c o h'    from the history h, the call c has the outcome o and leaves the history h'
 --     Run h cs os h'            so do the calls cs, one after the other, have the outcomes os
 --     AllRight os fs vss        each record's list of versions serves it, and every list of versions that serves it is at least as long
---     Law                       what Holds of the calls made on a new store, their outcomes, and what the store then has
+--     Law                       what holds of the calls made on a new store, their outcomes, and what the store then has
 use Rattle.std.specs.Prelude.{◌≡◌, ℕ, ◌+◌, ◌<◌, ◌≤◌, cond, List, [], ◌∷◌, map, length}
 use Rattle.kind.specs.Kinds.{Ops}
 use Rattle.lease.specs.Times.{count, opens}
@@ -51,11 +51,11 @@ is_held (held w x) = 1
 abbrev pub times : {Change : Type 0} → List (Version Change) → List ℕ
 times vs = map (λ v. v.time) vs
 
--- each record that w Holds stands once in rs, and no other number does
+-- each record that w holds stands once in rs, and no other number does
 abbrev pub EachHeld : ℕ → List (Hold (Unit {0})) → List ℕ → Type 0
 EachHeld w hs rs = (i : ℕ) → count i rs ≡ cond (held_by w (at_or free hs i)) 1 0
 
--- the call Says just this, and leaves this history
+-- the call says just this, and leaves this history
 abbrev pub Says : {Row : Type 0} → Outcome Row → History Row → Told Row → History Row → Type 0
 Says out after o h' = (o ≡ plain out) × (h' ≡ after)
 
@@ -95,7 +95,7 @@ module _ {Row Edit Change : Type 0} (k : Ops Row Edit Change) where
         (vs : List (Version Change)) × Right k (opens h.leases) f.newest.row (past k f) vs
         × TooShort h given (length vs) (λ p h''. (p ≡ record { outcome = Kept (length vs); written = times vs }) × (h'' ≡ h)) o h'
 
-    -- the number of the records that w Holds, and each of them once, in any order
+    -- the number of the records that w holds, and each of them once, in any order
     abbrev pub Holds : ℕ → Told Row → History Row → Type 0
     Holds w o h' = (rs : List ℕ) × (o ≡ record { outcome = Held (length rs); written = rs }) × (length rs ≡ count_held w (holders h.records)) × EachHeld w (holders h.records) rs × (h' ≡ h)
 

@@ -4,7 +4,7 @@
 --     finished_row k x      the newest finished row: the row in place, or the held one with the holder's change undone
 --     reading k x t         what a record reads at t
 --     in_use xs             how many versions the records need: those kept, and one for each held record
---     refused-..            the first check that fails, in the order of the checks, or none
+--     refused_..            the first check that fails, in the order of the checks, or none
 --     changed, finished, .. the model after a call
 --     step k cap m ls n c   the call c, given a list of n places, on the model m and the open leases ls: what is told, and both after it
 use Rattle.std.specs.Prelude.{ℕ, suc, ◌+◌, Bool, true, false, cond, not, ◌&&◌, List, [], ◌∷◌, map, length, replicate, Some, None, Option, ◌==◌, nat_le, nat_lt}

@@ -1,9 +1,9 @@
 -- A kind of change: rows, edits of rows, and changes (before-images) that take edits back.
---     Ops              what the functions of a kind answer, as one record
---     k.tells r       the list of whole numbers that the row r tells; rows that tell the same count as the same row
---     Laws k           what every kind owes
---     equal xs ys      whether two lists of numbers are the same
---     same k r q       whether two rows tell the same
+--     Ops           what the functions of a kind answer, as one record
+--     k.tells r     the list of whole numbers that the row r tells; rows that tell the same count as the same row
+--     Laws k        what every kind owes
+--     equal xs ys   whether two lists of numbers are the same
+--     same k r q    whether two rows tell the same
 use Rattle.std.specs.Prelude.{◌≡◌, ℕ, Bool, true, false, ◌&&◌, List, [], ◌∷◌, ◌==◌}
 
 pub record Ops (Row Edit Change : Type 0) : Type 0 where

@@ -1,7 +1,7 @@
 -- Lists of times under insert and delete: what every registry's proof needs.
---     insert_comm, delete-insert            the order of inserts is free, and delete undoes an insert
---     length-insert, count-insert, least-insert    an insert answers each question as a time put in front
---     sooner_assoc, sooner_none             sooner is a minimum with none at its end
+--     insert_comm, delete-insert                  the order of inserts is free, and delete undoes an insert
+--     length-insert, count-insert, least-insert   an insert answers each question as a time put in front
+--     sooner_assoc, sooner_none                   sooner is a minimum with none at its end
 use Rattle.std.proofs.Common.{◌≡◌, ℕ, suc, List, [], ◌∷◌, length, Some, None, Option, refl, ap, arith}
 use Rattle.std.proofs.lemmas.Bool.Decides.{nat_tests}
 use Rattle.lease.specs.Times.{insert, delete, count, least, sooner}

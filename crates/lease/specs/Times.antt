@@ -1,10 +1,10 @@
 -- What a registry means: the open times in rising order, each as often as a lease is open at it.
---     insert t l    one lease more at t
---     delete t l    one lease less at t
---     count t l     how many leases are open at t
---     least t l     the least open time at or above t, or none
---     opens l       how many leases are open at each time
---     Added, Removed    what add and remove answer, and the registry after them
+--     insert t l       one lease more at t
+--     delete t l       one lease less at t
+--     count t l        how many leases are open at t
+--     least t l        the least open time at or above t, or none
+--     opens l          how many leases are open at each time
+--     Added, Removed   what add and remove answer, and the registry after them
 use Rattle.std.specs.Prelude.{◌≡◌, ℕ, ◌+◌, ◌<◌, min, cond, List, [], ◌∷◌, length, Some, None, Ok, Err, Option, Result, ◌==◌, nat_le}
 use Rattle.lease.specs.declared.fault.RegistryFault.{RegistryFault}
 use Rattle.lease.specs.Card.{none_open, full}

@@ -29,7 +29,7 @@ fn a_refused_writer_comes_back(rt: HostRuntime) -> Result<(), Fail> {
     let Ok(writer) = begin_writer(&mut registry, 3) else {
         return Err(Fail::new("no writer"));
     };
-    // A `check` with its `?` would let the writer go: none stands here until it is spent.
+    // An early `?` would let the writer go: none stands here until it is spent.
     let removed = registry.remove(writer.number()).is_ok();
     let Err((fault, back)) = end_writer(&mut registry, writer) else {
         return Err(Fail::new("ended without a lease"));

@@ -8,39 +8,39 @@ use Rattle.links.proofs.Linked.{Run, good_run, inv_from}
 use Rattle.links.proofs.Steps.{row_in}
 use Rattle.links.proofs.CutSteps.{place}
 
-pub nth_inside : {X : Type 0} (xs : List X) (k : ℕ) (x : X) → slice_get xs k ≡ Some x → k < length xs
-nth_inside [] k x e = let z : ◌≡◌ {A = ℕ} 0 1 = cc in let f : ⊥ = omega arith in absurd f
-nth_inside (y ∷ xs) zero x e = omega arith
-nth_inside (y ∷ xs) (suc k) x e = omega (arith, nth_inside xs k x e)
+pub slice_get_inside : {X : Type 0} (xs : List X) (k : ℕ) (x : X) → slice_get xs k ≡ Some x → k < length xs
+slice_get_inside [] k x e = let z : ◌≡◌ {A = ℕ} 0 1 = cc in let f : ⊥ = omega arith in absurd f
+slice_get_inside (y ∷ xs) zero x e = omega arith
+slice_get_inside (y ∷ xs) (suc k) x e = omega (arith, slice_get_inside xs k x e)
 
 pub slice_get-get_or : {X : Type 0} (xs : List X) (k : ℕ) (x d : X) → slice_get xs k ≡ Some x → get_or xs k d ≡ x
 slice_get-get_or [] k x d e = let z : ◌≡◌ {A = ℕ} 0 1 = cc in let f : ⊥ = omega arith in absurd f
 slice_get-get_or (y ∷ xs) zero x d e = cc
 slice_get-get_or (y ∷ xs) (suc k) x d e = slice_get-get_or xs k x d e
 
-pub nth_end : {X : Type 0} (xs : List X) (k : ℕ) → slice_get xs k ≡ None → length xs ≤ k
-nth_end [] k e = omega arith
-nth_end (y ∷ xs) zero e = let z : ◌≡◌ {A = ℕ} 0 1 = cc in let f : ⊥ = omega arith in absurd f
-nth_end (y ∷ xs) (suc k) e = omega (arith, nth_end xs k e)
+pub slice_get_end : {X : Type 0} (xs : List X) (k : ℕ) → slice_get xs k ≡ None → length xs ≤ k
+slice_get_end [] k e = omega arith
+slice_get_end (y ∷ xs) zero e = let z : ◌≡◌ {A = ℕ} 0 1 = cc in let f : ⊥ = omega arith in absurd f
+slice_get_end (y ∷ xs) (suc k) e = omega (arith, slice_get_end xs k e)
 
-pub nth_past : {X : Type 0} (xs : List X) (k : ℕ) → slice_get xs k ≡ None → slice_get xs (suc k) ≡ None
-nth_past [] k e = refl
-nth_past (y ∷ xs) zero e = let z : ◌≡◌ {A = ℕ} 0 1 = cc in let f : ⊥ = omega arith in absurd f
-nth_past (y ∷ xs) (suc k) e = nth_past xs k e
+pub slice_get_past : {X : Type 0} (xs : List X) (k : ℕ) → slice_get xs k ≡ None → slice_get xs (suc k) ≡ None
+slice_get_past [] k e = refl
+slice_get_past (y ∷ xs) zero e = let z : ◌≡◌ {A = ℕ} 0 1 = cc in let f : ⊥ = omega arith in absurd f
+slice_get_past (y ∷ xs) (suc k) e = slice_get_past xs k e
 
-pub nth_drop : {X : Type 0} (xs : List X) (k : ℕ) → slice_get (drop k xs) 0 ≡ slice_get xs k
-nth_drop [] zero = refl
-nth_drop [] (suc k) = refl
-nth_drop (y ∷ xs) zero = refl
-nth_drop (y ∷ xs) (suc k) = nth_drop xs k
+pub slice_get_drop : {X : Type 0} (xs : List X) (k : ℕ) → slice_get (drop k xs) 0 ≡ slice_get xs k
+slice_get_drop [] zero = refl
+slice_get_drop [] (suc k) = refl
+slice_get_drop (y ∷ xs) zero = refl
+slice_get_drop (y ∷ xs) (suc k) = slice_get_drop xs k
 
 -- the place k leaves the list
-pub nth_cut : {X : Type 0} (xs : List X) (k : ℕ) → k < length xs → slice_get (take k xs ++ drop (k + 1) xs) k ≡ slice_get xs (k + 1)
-nth_cut xs k h = ap (λ n. slice_get (take k xs ++ drop n xs) k) (add-one k) ∙ go xs k h ∙ ap (slice_get xs) (sym (add-one k))
+pub slice_get_cut : {X : Type 0} (xs : List X) (k : ℕ) → k < length xs → slice_get (take k xs ++ drop (k + 1) xs) k ≡ slice_get xs (k + 1)
+slice_get_cut xs k h = ap (λ n. slice_get (take k xs ++ drop n xs) k) (add-one k) ∙ go xs k h ∙ ap (slice_get xs) (sym (add-one k))
   where
     go : {X : Type 0} (ys : List X) (j : ℕ) → j < length ys → slice_get (take j ys ++ drop (suc j) ys) j ≡ slice_get ys (suc j)
     go [] j l = let f : ⊥ = omega arith in absurd f
-    go (y ∷ ys) zero l = nth_drop ys 0
+    go (y ∷ ys) zero l = slice_get_drop ys 0
     go (y ∷ ys) (suc j) l = go ys j (omega arith)
 
 pub before_cut : (L : List ℕ) (k : ℕ) (M : List ℕ) → k ≤ length L → before (take k L ++ M) k ≡ before L k
@@ -74,21 +74,21 @@ row_in_range (L ∷ ls) zero k h = omega arith
 row_in_range (L ∷ ls) (suc r) k h = omega (arith, row_in_range ls r k h)
 
 pub row_of : {X : Type 0} (ls : List (List X)) (r k : ℕ) (x : X) → slice_get (get_or ls r []) k ≡ Some x → r < length ls
-row_of ls r k x e = row_in_range ls r k (nth_inside (get_or ls r []) k x e)
+row_of ls r k x e = row_in_range ls r k (slice_get_inside (get_or ls r []) k x e)
 
 module _ (l : Links) (r k s : ℕ) (e : slice_get (get_or (slots l) r []) k ≡ Some s) where
   pub place_in : s < length l.next.items
-  place_in = (place l r k s (row_of (slots l) r k s e) (nth_inside _ k s e) (slice_get-get_or _ k s 0 e)).0
+  place_in = (place l r k s (row_of (slots l) r k s e) (slice_get_inside _ k s e) (slice_get-get_or _ k s 0 e)).0
 
   pub place_next : (o : Option ℕ) → o ≡ get_or l.next.items s o → o ≡ slice_get (get_or (slots l) r []) (k + 1)
   place_next o eo =
-      let p = place l r k s (row_of (slots l) r k s e) (nth_inside _ k s e) (slice_get-get_or _ k s 0 e) in
-      get_or_read l.next.items s o p.0 eo None ∙ run_head l.next.items _ _ p.1 ∙ nth_drop (get_or (slots l) r []) (k + 1)
+      let p = place l r k s (row_of (slots l) r k s e) (slice_get_inside _ k s e) (slice_get-get_or _ k s 0 e) in
+      get_or_read l.next.items s o p.0 eo None ∙ run_head l.next.items _ _ p.1 ∙ slice_get_drop (get_or (slots l) r []) (k + 1)
 
 -- the place k, by the link to the place before it
 pub at_front : (L : List ℕ) (k : ℕ) (o : Option ℕ) → k < length L → o ≡ before L k → o ≡ None → k ≡ 0
 at_front L zero o h e n = refl
-at_front L (suc k) o h e n = let f : ⊥ = omega (arith, nth_end L k (sym e ∙ n)) in absurd f
+at_front L (suc k) o h e n = let f : ⊥ = omega (arith, slice_get_end L k (sym e ∙ n)) in absurd f
 
 pub behind : (L : List ℕ) (k p : ℕ) (o : Option ℕ) → o ≡ before L k → o ≡ Some p → (k ≡ k - 1 + 1) × (slice_get L (k - 1) ≡ Some p)
 behind L zero p o e n = let z : ◌≡◌ {A = ℕ} 0 1 = cc in let f : ⊥ = omega arith in absurd f

@@ -1,8 +1,8 @@
 -- What a line asks for.
 --     Worded              a command with its words
 --     command_of n c ws   the command of the letter c, its words taken off ws, in a line of n bytes; none for another letter
---     line_command n ws    the same, the letter being the first of the words
---     call_of_words t c         the call that a command makes: its words judged from left to right; else the place of the first bad one
+--     line_command n ws   the same, the letter being the first of the words
+--     call_of_words t c   the call that a command makes: its words judged from left to right; else the place of the first bad one
 --     line_call t k l     the call that the line l, the k-th, makes; else its refusal
 use Rattle.std.specs.Prelude.{ℕ, cond, List, [], ◌∷◌, length, Some, None, Ok, Err, Option, Result, ◌==◌}
 use Rattle.history.specs.declared.call.Call.{Call}

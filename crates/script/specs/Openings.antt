@@ -1,8 +1,8 @@
 -- What the first line of a script asks for: a kind (F or T), a registry (S or L), records, versions and a start.
---     kind_of c         the kind of a letter
---     registry_of c     the registry of a letter
---     sizes_of k r n v s    the opening of a kind and four more words, judged from left to right; else the place of the first bad one
---     opening l         the first line read; else its refusal
+--     kind_of c            the kind of a letter
+--     registry_of c        the registry of a letter
+--     sizes_of k r n v s   the opening of a kind and four more words, judged from left to right; else the place of the first bad one
+--     opening l            the first line read; else its refusal
 use Rattle.std.specs.Prelude.{ℕ, cond, List, length, Some, None, Ok, Err, Option, Result, ◌==◌}
 use Rattle.script.specs.Card.{unknown_letter_fault}
 use Rattle.script.specs.Commands.{letter_of_word, bind, ended}

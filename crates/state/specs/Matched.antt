@@ -1,7 +1,7 @@
 -- When the record table and the chains fit each other.
---     backed o vs       the change of the holder o is there: the first of the list
---     matched rs cs     one chain for each record, and each holder's change is there
---     stacked, stamped, taken_back    what a change, a commit and an abandon make of a record's list and row
+--     backed o vs                    the change of the holder o is there: the first of the list
+--     matched rs cs                  one chain for each record, and each holder's change is there
+--     stacked, stamped, taken_back   what a change, a commit and an abandon make of a record's list and row
 use Rattle.std.specs.Prelude.{ℕ, ◌<◌, Bool, true, false, ◌&&◌, List, [], ◌∷◌, Some, None, Option}
 use Rattle.kind.specs.Kinds.{Ops}
 use Rattle.chain.specs.declared.version.Version.{Version}

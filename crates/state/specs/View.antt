@@ -1,7 +1,7 @@
 -- What a state means, and what its checks answer.
---     view s          the model that the state s is
---     table_records t, table_versions t    how many records and versions empty tables are for
---     Placed, Owned   what the checks of a record's number and of the right to change it answer
+--     view s                              the model that the state s is
+--     table_records t, table_versions t   how many records and versions empty tables are for
+--     Placed, Owned                       what the checks of a record's number and of the right to change it answer
 use Rattle.std.specs.Prelude.{◌≡◌, ℕ, ◌<◌, ◌≤◌, length, Some, None, Ok, Err, vec_items, Result}
 use Rattle.kind.specs.declared.Kind.{Ghosts}
 use Rattle.kind.specs.Kinds.{Ops}

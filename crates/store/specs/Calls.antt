@@ -1,7 +1,7 @@
 -- What each call of a store answers, and the store, the registry and the given places after it, by the words of the model.
 -- Each has a clause for the answer and one for the refusal, which alters nothing.
 --     v, leases    what a store and a registry mean;  s, g and s', g'    both before and after the call
---     refused-..   of the model: the first check that fails, or none
+--     refused_..   of the model: the first check that fails, or none
 use Rattle.std.specs.Prelude.{◌≡◌, ℕ, ◌+◌, ◌<◌, List, length, take, drop, Some, None, Ok, Err, Result}
 use Rattle.kind.specs.Kinds.{Ops}
 use Rattle.lease.specs.Times.{insert, delete, count, opens}

@@ -1,7 +1,7 @@
 -- Making a store.
---     refused_sizes n v start    the first check that fails: 1 for the record table, 1 for the version table, 2 for the start
---     Sized n v start r          what the check of the sizes answers
---     fresh_records f, fresh_versions f    how many records and versions a new store is for
+--     refused_sizes n v start             the first check that fails: 1 for the record table, 1 for the version table, 2 for the start
+--     Sized n v start r                   what the check of the sizes answers
+--     fresh_records f, fresh_versions f   how many records and versions a new store is for
 use Rattle.std.specs.Prelude.{◌≡◌, ℕ, ◌||◌, Some, None, Ok, Err, Option, Result, ◌==◌, nat_lt}
 use Rattle.kind.specs.declared.Kind.{Ghosts}
 use Rattle.history.specs.declared.fault.StoreCause.TheVariants.{TableSize, StartHigh}

@@ -1,8 +1,8 @@
 -- Four counters modulo 2^64.
---     counts xs          a row, an edit or a change of these four numbers
---     add64, sub64       sum and difference modulo 2^64
---     tallies_tells r    the four counters, as numbers of 64 bits
---     plus x y, minus x y    counter by counter
+--     counts xs             a row, an edit or a change of these four numbers
+--     add64, sub64          sum and difference modulo 2^64
+--     tallies_tells r       the four counters, as numbers of 64 bits
+--     plus x y, minus x y   counter by counter
 use Rattle.std.specs.Prelude.{List, ℕ, ◌+◌, ◌-◌, ◌%◌, ◌^◌, get_or}
 use Rattle.kind.specs.Kinds.{Ops}
 use Rattle.kind.specs.Tables.{table}

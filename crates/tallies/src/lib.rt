@@ -2,7 +2,7 @@
 #![tactic(auto)]
 
 ghost use Rattle.std.specs.Prelude.{◌≡◌};
-ghost use Rattle.tallies.specs.Tallies.{tallies_ops, tallies_tells, plus as tallies-plus, minus as tallies-minus};
+ghost use Rattle.tallies.specs.Tallies.{tallies_ops, tallies_tells, plus as tallies_plus, minus as tallies_minus};
 ghost use Rattle.tallies.specs.Laws.{tallies_laws};
 
 use kind::Kind;
@@ -63,7 +63,7 @@ impl Kind for Tallies {
 }
 
 fn plus(x: Counts, y: Counts) -> Counts
-    ensures { result ≡ tallies-plus x y }
+    ensures { result ≡ tallies_plus x y }
 {
     let mut values = x.values;
     for i in 0..COUNTERS {
@@ -73,7 +73,7 @@ fn plus(x: Counts, y: Counts) -> Counts
 }
 
 fn minus(x: Counts, y: Counts) -> Counts
-    ensures { result ≡ tallies-minus x y }
+    ensures { result ≡ tallies_minus x y }
 {
     let mut values = x.values;
     for i in 0..COUNTERS {

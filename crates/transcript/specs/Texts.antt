@@ -1,9 +1,9 @@
 -- What is printed of an outcome: one line each, ended by a line feed.
---     decimal n            the digits of n (the standard library's word)
---     spaced ns            each number behind a space
---     refused_text n l p k    a refusal: number, layer, place, and the line k
---     outcome_text tells k o  the line of an outcome that came at the line k; a row is told by its numbers
---     end_text u n         the last line: the versions in use and the open leases
+--     decimal n                the digits of n (the standard library's word)
+--     spaced ns                each number behind a space
+--     refused_text n l p k     a refusal: number, layer, place, and the line k
+--     outcome_text tells k o   the line of an outcome that came at the line k; a row is told by its numbers
+--     end_text u n             the last line: the versions in use and the open leases
 use Rattle.std.specs.Prelude.{ℕ, List, [], ◌∷◌, ◌++◌, codes, decimal}
 use Rattle.lease.specs.declared.fault.Layer.{Layer}
 use Rattle.lease.specs.Shown.{layer_letter}

@@ -8,7 +8,7 @@ use Rattle.std.proofs.lemmas.Option.{slice_get_read, slice_get_past}
 use Rattle.chain.specs.declared.version.Version.{Version}
 use Rattle.links.specs.Walk.{count}
 use Rattle.links.specs.Meaning.{slots, size}
-use Rattle.links.proofs.Places.{nth_end, row_of, place_in}
+use Rattle.links.proofs.Places.{slice_get_end, row_of, place_in}
 use Rattle.version_table.specs.declared.table.VersionTable.{VersionTable}
 use Rattle.version_table.specs.Chains.{pick, chains}
 use Rattle.version_table.proofs.Picks.{chain_is, chain_len, slot_len, slots_once, slice_get-pick, pick_write, replaced, count-slice_get, pick-append, pick-take}
@@ -38,11 +38,11 @@ module _ {C : Type 0} (t : VersionTable C) (r k s : ℕ) (e : slice_get (get_or 
 
 -- past the end of a chain there is nothing
 pub looked_past : {C : Type 0} (t : VersionTable C) (r k : ℕ) → slice_get (get_or (slots t.links) r []) k ≡ None → None ≡ slice_get (get_or (chains t) r []) k
-looked_past t r k e = sym (slice_get_past (get_or (chains t) r []) k (omega (arith, chain_len t r, nth_end (get_or (slots t.links) r []) k e)))
+looked_past t r k e = sym (slice_get_past (get_or (chains t) r []) k (omega (arith, chain_len t r, slice_get_end (get_or (slots t.links) r []) k e)))
 
 pub written_past : {C : Type 0} (t : VersionTable C) (r k : ℕ) (x : Version C) → slice_get (get_or (slots t.links) r []) k ≡ None → chains t ≡ set (chains t) r (set (get_or (chains t) r []) k x)
 written_past t r k x e =
-    let h : length (get_or (chains t) r []) ≤ k = omega (arith, chain_len t r, nth_end (get_or (slots t.links) r []) k e) in
+    let h : length (get_or (chains t) r []) ≤ k = omega (arith, chain_len t r, slice_get_end (get_or (slots t.links) r []) k e) in
     sym (ap (set (chains t) r) (set_past (get_or (chains t) r []) k x h) ∙ set-get_or (chains t) r [])
   where
     set_past : {X : Type 0} (xs : List X) (i : ℕ) (y : X) → length xs ≤ i → set xs i y ≡ xs

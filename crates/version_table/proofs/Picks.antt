@@ -58,10 +58,10 @@ picks_frame vs i x (L ∷ ls) c =
     let b = picks_frame vs i x ls y in
     cc
 
-pub get_d_over : {X Y : Type 0} (f : List X → List Y) → f [] ≡ [] → (ls : List (List X)) (r : ℕ) → get_or (map f ls) r [] ≡ f (get_or ls r [])
-get_d_over f z [] r = sym z
-get_d_over f z (L ∷ ls) zero = refl
-get_d_over f z (L ∷ ls) (suc r) = get_d_over f z ls r
+pub get_or_over : {X Y : Type 0} (f : List X → List Y) → f [] ≡ [] → (ls : List (List X)) (r : ℕ) → get_or (map f ls) r [] ≡ f (get_or ls r [])
+get_or_over f z [] r = sym z
+get_or_over f z (L ∷ ls) zero = refl
+get_or_over f z (L ∷ ls) (suc r) = get_or_over f z ls r
 
 -- a slot that was in no list comes to the front of the list r, with x
 pub pushed : {X : Type 0} (vs : List X) (s : ℕ) (x : X) (ls ms : List (List ℕ)) (r : ℕ) → sum_by (count s) ls ≡ 0 → s < length vs → r < length ls → ms ≡ set ls r (s ∷ get_or ls r []) → map (pick (set vs s x)) ms ≡ set (map (pick vs) ls) r (x ∷ get_or (map (pick vs) ls) r [])
@@ -79,7 +79,7 @@ pushed vs s x ls ms r z l lr e =
 -- the front slot of the list r leaves it
 pub popped : {X : Type 0} (vs : List X) (s : ℕ) (x : X) (ls ms : List (List ℕ)) (r : ℕ) → s < length vs → x ≡ get_or vs s x → get_or ls r [] ≡ s ∷ drop 1 (get_or ls r []) → ms ≡ set ls r (drop 1 (get_or ls r [])) → (map (pick vs) ms ≡ set (map (pick vs) ls) r (drop 1 (get_or (map (pick vs) ls) r []))) × (get_or (map (pick vs) ls) r [] ≡ x ∷ drop 1 (get_or (map (pick vs) ls) r []))
 popped vs s x ls ms r l ex ef em =
-    let h : get_or (map (pick vs) ls) r [] ≡ pick vs (get_or ls r []) = get_d_over (pick vs) (pick-nil vs) ls r in
+    let h : get_or (map (pick vs) ls) r [] ≡ pick vs (get_or ls r []) = get_or_over (pick vs) (pick-nil vs) ls r in
     let a : get_or (map (pick vs) ls) r [] ≡ x ∷ pick vs (drop 1 (get_or ls r [])) = h ∙ ap (pick vs) ef ∙ pick_read vs s x (drop 1 (get_or ls r [])) l ex in
     let b : drop 1 (get_or (map (pick vs) ls) r []) ≡ pick vs (drop 1 (get_or ls r [])) = ap (drop 1) a in (
       ap (map (pick vs)) em ∙ map-set (pick vs) ls r (drop 1 (get_or ls r [])) ∙ ap (λ y. set (map (pick vs) ls) r y) (sym b),
@@ -203,7 +203,7 @@ chains-rows k = length-map (slots k.links) (pick k.versions.items)
 -- out of range, no version and no slot
 pub chain_is : {C : Type 0} (k : VersionTable C) (r : ℕ) → get_or (chains k) r [] ≡ pick k.versions.items (get_or (slots k.links) r [])
 unfolding chains
-chain_is k r = get_d_over (pick k.versions.items) (pick-nil k.versions.items) (slots k.links) r
+chain_is k r = get_or_over (pick k.versions.items) (pick-nil k.versions.items) (slots k.links) r
 
 pub chain_len : {C : Type 0} (k : VersionTable C) (r : ℕ) → length (get_or (chains k) r []) ≡ length (get_or (slots k.links) r [])
 chain_len k r = ap length (chain_is k r) ∙ slot_len k r
@@ -216,7 +216,7 @@ sum_more ls ms s r l e =
     omega (arith, a, b)
 
 pub row_empty : {X : Type 0} (vs : List X) (ls : List (List ℕ)) (r : ℕ) → get_or ls r [] ≡ [] → get_or (map (pick vs) ls) r [] ≡ []
-row_empty vs ls r e = get_d_over (pick vs) (pick-nil vs) ls r ∙ ap (pick vs) e ∙ pick-nil vs
+row_empty vs ls r e = get_or_over (pick vs) (pick-nil vs) ls r ∙ ap (pick vs) e ∙ pick-nil vs
 
 pub inside_versions : {C : Type 0} (k : VersionTable C) (s : ℕ) → s < size k.links → s < length k.versions.items
 inside_versions k s h = omega (arith, h, k.sized)

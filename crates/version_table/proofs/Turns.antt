@@ -7,7 +7,7 @@ use Rattle.chain.specs.declared.version.Version.{Version}
 use Rattle.chain.specs.Pruning.{open_in, floor, absorb, join_versions, prune, prune_held}
 use Rattle.chain.proofs.Rule.{keep, idle, join}
 use Rattle.links.specs.Meaning.{slots, before}
-use Rattle.links.proofs.Places.{row_in_range, nth_cut, before_cut, nth_inside, slice_get-get_or, nth_end, nth_drop}
+use Rattle.links.proofs.Places.{row_in_range, slice_get_cut, before_cut, slice_get_inside, slice_get-get_or, slice_get_end, slice_get_drop}
 use Rattle.links.proofs.Ways.{set_again}
 use Rattle.version_table.specs.declared.table.VersionTable.{VersionTable}
 use Rattle.version_table.specs.Chains.{chains}
@@ -50,7 +50,7 @@ module _ {Row Edit Change : Type 0} (k : Ops Row Edit Change) (C : List (Version
       next_written C i j v e ∙ ap (λ x. take i C ++ (x ∷ drop (i + 1 + 1) C)) q ∙ sym (ap (λ vs. take i C ++ absorb k p vs) (slice_get-cons C (i + 1) v e))
 
   pub absorb_last : slice_get C (i + 1) ≡ None → take i C ++ drop (i + 1) C ≡ take i C ++ absorb k p (drop (i + 1) C)
-  absorb_last e = let d = drop_all (i + 1) C (nth_end C (i + 1) e) in ap (λ vs. take i C ++ vs) d ∙ sym (ap (λ vs. take i C ++ absorb k p vs) d)
+  absorb_last e = let d = drop_all (i + 1) C (slice_get_end C (i + 1) e) in ap (λ vs. take i C ++ vs) d ∙ sym (ap (λ vs. take i C ++ absorb k p vs) d)
 
 -- the cursor at the place k, and the chain r, once that place has left the list of slots and the rest of the chain is X
 pub record After {C : Type 0} (t T : VersionTable C) (E : List (List (Version C))) (r k : ℕ) (link next : Option ℕ) (X : List (Version C)) : Type 0 where
@@ -73,7 +73,7 @@ left t T E r k link next X h el en ec es et =
     let both = set_again E (chains t) (chains T) r (take k C ++ X) wide ec et in
     record {
       behind = el ∙ sym (ap (λ M. before M k) slot_row ∙ before_cut L k (drop (k + 1) L) inside);
-      here = en ∙ sym (ap (λ M. slice_get M k) slot_row ∙ nth_cut L k h);
+      here = en ∙ sym (ap (λ M. slice_get M k) slot_row ∙ slice_get_cut L k h);
       others = both.0;
       front = ap (take k) both.1 ∙ take_front C X k short;
       rest = ap (drop k) both.1 ∙ drop_front C X k short;
@@ -88,7 +88,7 @@ cut_again cs cs1 cs2 r k D Y h e f q =
 -- nothing stands at the place k or behind it
 pub ended : {C : Type 0} (t : VersionTable C) (E : List (List (Version C))) (r k : ℕ) (at : Option ℕ) → at ≡ slice_get (get_or (slots t.links) r []) k → at ≡ None → (take k (get_or (chains t) r []) ≡ get_or (chains t) r []) × (drop k (get_or (chains t) r []) ≡ [])
 ended t E r k at ea en =
-    let h : length (get_or (chains t) r []) ≤ k = omega (arith, chain_len t r, nth_end (get_or (slots t.links) r []) k (sym ea ∙ en)) in
+    let h : length (get_or (chains t) r []) ≤ k = omega (arith, chain_len t r, slice_get_end (get_or (slots t.links) r []) k (sym ea ∙ en)) in
     (take_all k (get_or (chains t) r []) h, drop_all k (get_or (chains t) r []) h)
 
 -- one version less is still to come
@@ -98,14 +98,14 @@ fewer t T r k X h e l = omega (arith, ap length e, length-drop k (get_or (chains
 -- the three ways of a turn at the version p, the i-th of the chain C; `older` is the next one
 module _ {Row Edit Change : Type 0} (k : Ops Row Edit Change) (os : ℕ → ℕ) (C : List (Version Change)) (i : ℕ) (p : Version Change) (older : Option (Version Change)) (r : Row) (here : slice_get C i ≡ Some p) (next : older ≡ slice_get C (i + 1)) where
   gap : (b : Bool) → open_in os (floor older) p.time ≡ b → open_in os (floor (slice_get (drop (i + 1) C) 0)) p.time ≡ b
-  gap b e = ap (λ o. open_in os (floor o) p.time) (nth_drop C (i + 1) ∙ sym next) ∙ e
+  gap b e = ap (λ o. open_in os (floor o) p.time) (slice_get_drop C (i + 1) ∙ sym next) ∙ e
 
   whole : (ys : List (Version Change)) → prune k os r (p ∷ drop (i + 1) C) ≡ ys → take i C ++ ys ≡ take i C ++ prune k os r (drop i C)
   whole ys e = sym (ap (λ vs. take i C ++ prune k os r vs) (slice_get-cons C i p here) ∙ ap (λ vs. take i C ++ vs) e)
 
   pub kept_turn : (back : Row) → open_in os (floor older) p.time ≡ true → back ≡ k.undo r p.change → same k r back ≡ false → take (i + 1) C ++ prune k os back (drop (i + 1) C) ≡ take i C ++ prune k os r (drop i C)
   kept_turn back g b s =
-      ap (λ vs. vs ++ prune k os back (drop (i + 1) C)) (take_more C i p (nth_inside C i p here) ∙ ap (λ x. take i C ++ (x ∷ [])) (slice_get-get_or C i p p here))
+      ap (λ vs. vs ++ prune k os back (drop (i + 1) C)) (take_more C i p (slice_get_inside C i p here) ∙ ap (λ x. take i C ++ (x ∷ [])) (slice_get-get_or C i p p here))
       ∙ append_assoc (take i C) (p ∷ []) (prune k os back (drop (i + 1) C))
       ∙ whole (p ∷ prune k os back (drop (i + 1) C)) (keep k os r p (drop (i + 1) C) back (gap true g) b s)
 
@@ -121,7 +121,7 @@ absorb_short k p (v ∷ vs) = omega arith
 
 -- a version stands at the place k
 pub inside : {C : Type 0} (t : VersionTable C) (r k : ℕ) (v : Version C) → Some v ≡ slice_get (get_or (chains t) r []) k → k < length (get_or (slots t.links) r [])
-inside t r k v e = omega (arith, chain_len t r, nth_inside (get_or (chains t) r []) k v (sym e))
+inside t r k v e = omega (arith, chain_len t r, slice_get_inside (get_or (chains t) r []) k v (sym e))
 
 -- pruning behind a first version
 module _ {Row Edit Change : Type 0} (k : Ops Row Edit Change) (os : ℕ → ℕ) (place : Row) (C : List (Version Change)) where

@@ -7,7 +7,7 @@ use Rattle.figures.proofs.figures_stand.Goals as goal
 
 table : Figures
 unfolding same
-table = record { undone = refl; joined = refl; wrapped = refl; at_5 = refl; at-4-6 = refl; at-3-3-8 = refl; returned = refl; apart = refl }
+table = record { undone = refl; joined = refl; wrapped = refl; at_5 = refl; at_4_6 = refl; at_3_3_8 = refl; returned = refl; apart = refl }
 
 pub returns : goal.returns
 returns c = record { figures = table; first = ap (λ (r : Attributes). get_or r.values 3 0) c.undo-before.ensures }

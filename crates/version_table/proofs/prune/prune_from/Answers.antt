@@ -6,7 +6,7 @@ use Rattle.chain.specs.Pruning.{absorb, prune}
 use Rattle.chain.proofs.Times.{none_open}
 use Rattle.chain.proofs.Rule.{nothing}
 use Rattle.links.specs.Meaning.{slots, before}
-use Rattle.links.proofs.Places.{nth_end}
+use Rattle.links.proofs.Places.{slice_get_end}
 use Rattle.version_table.specs.Chains.{chains}
 use Rattle.version_table.proofs.Picks.{chain_len, list_small}
 use Rattle.version_table.proofs.Turns.{After, left, inside, fewer, kept_turn, idle_turn, join_turn, absorb_short}
@@ -101,7 +101,7 @@ returns g c =
     let k = g.K.Kind.ops in
     let os = opens (g.R.Registry.leases c.args.registry.now) in
     let C = get_or (chains c.loop-hand.table) c.args.r [] in
-    let h = nth_end C c.loop-hand.k (sym c.look.ensures ∙ c.in_default-look.is) in
+    let h = slice_get_end C c.loop-hand.k (sym c.look.ensures ∙ c.in_default-look.is) in
     let none : take c.loop-hand.k C ++ prune k os c.loop-hand.reached (drop c.loop-hand.k C) ≡ C =
     ap (λ vs. take c.loop-hand.k C ++ prune k os c.loop-hand.reached vs) (drop_all c.loop-hand.k C h) ∙ append-nil (take c.loop-hand.k C) ∙ take_all c.loop-hand.k C h in
     record { room = c.loop-hand.invariant.2; pruned = c.loop-hand.invariant.3 ∙ ap (set (chains c.args.table.now) c.args.r) (sym none ∙ c.loop-hand.invariant.4) }

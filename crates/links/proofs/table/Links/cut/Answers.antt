@@ -1,6 +1,6 @@
 use Rattle.std.proofs.Common.{◌-◌, [], get_or, arith}
 use Rattle.links.specs.Meaning.{slots, size}
-use Rattle.links.proofs.Places.{nth_inside, slice_get-get_or, row_in_range, at_front, behind, front_cut, later_cut}
+use Rattle.links.proofs.Places.{slice_get_inside, slice_get-get_or, row_in_range, at_front, behind, front_cut, later_cut}
 use Rattle.links.proofs.table.Links.cut.Goals as goal
 
 pub overflow_sub-k : goal.overflow_sub-k
@@ -12,7 +12,7 @@ cut_after-cut-requires c =
     let b = behind L c.args.k c.in-Some.p c.args.link c.requires.before c.in-Some.is in
     record {
       row = row_in_range (slots c.args.self.now) c.args.r c.args.k c.requires.inside;
-      place = (nth_inside L (c.args.k - 1) c.in-Some.p b.1, slice_get-get_or L (c.args.k - 1) c.in-Some.p 0 b.1);
+      place = (slice_get_inside L (c.args.k - 1) c.in-Some.p b.1, slice_get-get_or L (c.args.k - 1) c.in-Some.p 0 b.1);
     }
 
 pub returns-in-None : goal.returns-in-None
