@@ -9,7 +9,7 @@ use Rattle.script.proofs.number.number.Goals.{then-b-lt48-via-then-b-lt48, then-
 pub returns-then-is_empty : goal.returns-then-is_empty
 returns-then-is_empty c =
     let xs = c.args.text.now in
-    ⊎_elim (λ e. number_none xs (eqb-true (length xs) 0 (sym c.is_empty.ensures ∙ e))) (λ p. number_long xs p.1) c.then-is_empty.either
+    ⊎_elim (λ e. number_none xs (eqb-true (length xs) 0 (sym c.is_empty.ensures ∙ e))) (λ p. number_long xs (omega (arith, p.1))) c.then-is_empty.either
 
 pub returns-then-b-lt48 : goal.returns-then-b-lt48
 returns-then-b-lt48 c =

@@ -16,7 +16,7 @@ invariant_of-self c =
     let s = c.args.self.now in
     let f = c.in-Some.ensures in
     let w : s.len ≤ length s.entries = omega (arith, s.within) in
-    let b = lowered s.entries s.len c.in-Some.i c.args.time w f.0 f.1 c.if-old-gt-LAST.true in
+    let b = lowered s.entries s.len c.in-Some.i c.args.time w f.0 f.1 (omega (arith, c.if-old-gt-LAST.true)) in
     record { within = s.within; few = omega (arith, b.shrunk, s.few); ordered = b.order s.ordered }
 
 pub invariant_of-self-else-old-gt-LAST : goal.invariant_of-self-else-old-gt-LAST
@@ -32,7 +32,7 @@ returns-then-old-gt-LAST c =
     let s = c.args.self.now in
     let f = c.in-Some.ensures in
     let w : s.len ≤ length s.entries = omega (arith, s.within) in
-    let b = lowered s.entries s.len c.in-Some.i c.args.time w f.0 f.1 c.if-old-gt-LAST.true in
+    let b = lowered s.entries s.len c.in-Some.i c.args.time w f.0 f.1 (omega (arith, c.if-old-gt-LAST.true)) in
     (holds_mid s.entries s.len c.in-Some.i c.args.time f.0 f.1 s.ordered, b.means)
 
 pub returns-else-old-gt-LAST : goal.returns-else-old-gt-LAST

@@ -1,4 +1,4 @@
-use Rattle.std.proofs.Common.{◌+◌, get_or, drop, sym, ◌∙◌}
+use Rattle.std.proofs.Common.{◌+◌, get_or, drop, sym, ◌∙◌, arith}
 use Rattle.std.proofs.lemmas.List.{at_drop_more, at_drop_all}
 use Rattle.lease.specs.Times.{least}
 use Rattle.sorted_list.specs.Entries.{times, rising, no_entry}
@@ -12,7 +12,7 @@ returns-then-time-e c =
     let h = c.loop-e-test.true in
     let d = no_entry in
     let r = sym (at_drop_more rising es i d h) ∙ c.loop-e.invariant.1 in
-    sym (least_hit c.args.time (get_or es i d) (drop (i + 1) es) c.if-time-e.true r)
+    sym (least_hit c.args.time (get_or es i d) (drop (i + 1) es) (omega (arith, c.if-time-e.true)) r)
     ∙ sym (at_drop_more (λ ys. least c.args.time (times ys)) es i d h) ∙ c.loop-e.invariant.0
 
 pub loop-e-preserved : goal.loop-e-preserved

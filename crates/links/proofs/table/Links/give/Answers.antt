@@ -16,7 +16,7 @@ pub index_mut-requires-in-Some : goal.index_mut-requires-in-Some
 index_mut-requires-in-Some c = let f = front c.args.self.now c.args.r c.in-Some.s c.in-Some.ensures.head in omega (arith, (give_in c.args.self.now c.args.r c.in-Some.s f.row f.head).inside, c.args.self.now.next.ok.0)
 
 pub overflow_sub-self : goal.overflow_sub-self
-overflow_sub-self c = let f = front c.args.self.now c.args.r c.in-Some.s c.in-Some.ensures.head in (give_in c.args.self.now c.args.r c.in-Some.s f.row f.head).some
+overflow_sub-self c = let f = front c.args.self.now c.args.r c.in-Some.s c.in-Some.ensures.head in omega (arith, (give_in c.args.self.now c.args.r c.in-Some.s f.row f.head).some)
 
 pub invariant_of-self : goal.invariant_of-self
 invariant_of-self c =

@@ -8,7 +8,7 @@ use Rattle.script.proofs.reader.Reader.next_line.Goals.{then-n-rest, else-n-rest
 
 pub returns-then-self-gt0 : goal.returns-then-self-gt0
 returns-then-self-gt0 c =
-    record { same = refl; lines = none_left c.args.self.now.bytes.now c.args.self.now.at c.args.self.now.line c.if-self.true c.if-self-gt0.true; counted = refl }
+    record { same = refl; lines = none_left c.args.self.now.bytes.now c.args.self.now.at c.args.self.now.line (omega (arith, c.if-self.true)) c.if-self-gt0.true; counted = refl }
 
 pub returns : goal.returns
 returns c =

@@ -1,4 +1,4 @@
-use Rattle.std.proofs.Common.{◌&&◌, eqb, ltb, None, sym, refl, ap, ◌∙◌}
+use Rattle.std.proofs.Common.{◌&&◌, eqb, ltb, None, sym, refl, ap, ◌∙◌, arith}
 use mathlib.Core.Bool.{false≢true}
 use Rattle.lease.specs.Times.{count, delete, opens}
 use Rattle.history.specs.History.{limit}
@@ -24,7 +24,7 @@ finish_held-requires g c =
     let w = c.number-w.result in
     let b = ltb 0 (held_number w m) && eqb m.clock limit in
     let passed = (none_left b (clock_limit m.clock) None (none_left (eqb (count w ls) 0) (no_lease w) (or_else b (clock_limit m.clock) None) c.in_default.ensures.0).1).0 in
-    λ h q. false≢true (sym passed ∙ at_limit m c.holds-n.result w c.holds-n.ensures h q)
+    λ h q. false≢true (sym passed ∙ at_limit m c.holds-n.result w c.holds-n.ensures (omega (arith, h)) q)
 
 pub returns : goal.returns
 unfolding Commits Ends
