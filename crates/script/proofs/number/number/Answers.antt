@@ -48,4 +48,4 @@ returns c =
     let v = sym c.loop-b.invariant.0 ∙ at_drop_all (read_on c.loop-b.n) xs i c.loop-b-test.false in
     let full : 1 ≤ length xs = let z = eqb-false (length xs) 0 (sym c.if-is_empty.ensures) in omega arith in
     let small : read_on 0 xs < 18446744073709551616 = omega (arith, v, c.loop-b.invariant.2) in
-    ap (λ m. Some m) (sym v) ∙ number_good xs full c.if-text-gt20.false d small
+    ap (λ m. Some m) (sym v) ∙ number_good xs full (omega arith) d small
