@@ -145,7 +145,7 @@ def respelled(text, names):
 
 
 def in_clauses(text, names):
-    """A file of src/: all but strings and characters."""
+    """A file of src/: all but strings."""
     out, last = [], 0
     for m in re.finditer(r"b?\"(?:[^\"\\\n]|\\.)*\"", text):
         out += [respelled(text[last : m.start()], names), m.group(0)]
