@@ -3,16 +3,16 @@ use Rattle.history.specs.declared.call.Call.{Call}
 use Rattle.history.specs.declared.call.Outcome.TheVariants.{InUse}
 use Rattle.history.specs.Model.{step}
 use Rattle.store.specs.View.{view}
-use Rattle.run.specs.Steps.{Performed}
+use Rattle.run.specs.Steps.{Performed, said}
 use Rattle.run.proofs.Decisions.{plain_performed}
-use Rattle.run.proofs.perform.perform.Goals as goal
+use Rattle.run.proofs.perform.answer.Goals as goal
 
 pub returns-in-Open : goal.returns-in-Open
 returns-in-Open g c =
     let m = view c.args.store.now in
     let ls = g.R.Registry.leases c.args.registry.now in
     let l = c.args.list.now in
-    let P : Call g.row.K-Edit.Denot → Type 0 = λ z. Performed (step g.K.Kind.ops g.R.Registry.capacity m ls (length l) z) c.open.result (view c.args.store.now) (g.R.Registry.leases c.open.new.registry) l l in
+    let P : Call g.row.K-Edit.Denot → Type 0 = λ z. Performed (step g.K.Kind.ops g.R.Registry.capacity m ls (length l) z) (said c.open.result) (view c.args.store.now) (g.R.Registry.leases c.open.new.registry) l l in
     subst P (sym c.in-Open.is) (plain_performed _ _ _ _ l c.open.ensures)
 
 pub returns-in-Read : goal.returns-in-Read
@@ -20,7 +20,7 @@ returns-in-Read g c =
     let m = view c.args.store.now in
     let ls = g.R.Registry.leases c.args.registry.now in
     let l = c.args.list.now in
-    let P : Call g.row.K-Edit.Denot → Type 0 = λ z. Performed (step g.K.Kind.ops g.R.Registry.capacity m ls (length l) z) c.read.result (view c.args.store.now) (ls) l l in
+    let P : Call g.row.K-Edit.Denot → Type 0 = λ z. Performed (step g.K.Kind.ops g.R.Registry.capacity m ls (length l) z) (said c.read.result) (view c.args.store.now) ls l l in
     subst P (sym c.in-Read.is) (plain_performed _ _ _ _ l c.read.ensures)
 
 pub returns-in-Close : goal.returns-in-Close
@@ -28,7 +28,7 @@ returns-in-Close g c =
     let m = view c.args.store.now in
     let ls = g.R.Registry.leases c.args.registry.now in
     let l = c.args.list.now in
-    let P : Call g.row.K-Edit.Denot → Type 0 = λ z. Performed (step g.K.Kind.ops g.R.Registry.capacity m ls (length l) z) c.close.result (view c.close.new.store) (g.R.Registry.leases c.close.new.registry) l l in
+    let P : Call g.row.K-Edit.Denot → Type 0 = λ z. Performed (step g.K.Kind.ops g.R.Registry.capacity m ls (length l) z) (said c.close.result) (view c.close.new.store) (g.R.Registry.leases c.close.new.registry) l l in
     subst P (sym c.in-Close.is) (plain_performed _ _ _ _ l c.close.ensures)
 
 pub returns-in-Begin : goal.returns-in-Begin
@@ -36,7 +36,7 @@ returns-in-Begin g c =
     let m = view c.args.store.now in
     let ls = g.R.Registry.leases c.args.registry.now in
     let l = c.args.list.now in
-    let P : Call g.row.K-Edit.Denot → Type 0 = λ z. Performed (step g.K.Kind.ops g.R.Registry.capacity m ls (length l) z) c.begin.result (view c.begin.new.store) (g.R.Registry.leases c.begin.new.registry) l l in
+    let P : Call g.row.K-Edit.Denot → Type 0 = λ z. Performed (step g.K.Kind.ops g.R.Registry.capacity m ls (length l) z) (said c.begin.result) (view c.begin.new.store) (g.R.Registry.leases c.begin.new.registry) l l in
     subst P (sym c.in-Begin.is) (plain_performed _ _ _ _ l c.begin.ensures)
 
 pub returns-in-Look : goal.returns-in-Look
@@ -44,7 +44,7 @@ returns-in-Look g c =
     let m = view c.args.store.now in
     let ls = g.R.Registry.leases c.args.registry.now in
     let l = c.args.list.now in
-    let P : Call g.row.K-Edit.Denot → Type 0 = λ z. Performed (step g.K.Kind.ops g.R.Registry.capacity m ls (length l) z) c.look.result (view c.args.store.now) (ls) l l in
+    let P : Call g.row.K-Edit.Denot → Type 0 = λ z. Performed (step g.K.Kind.ops g.R.Registry.capacity m ls (length l) z) (said c.look.result) (view c.args.store.now) ls l l in
     subst P (sym c.in-Look.is) (plain_performed _ _ _ _ l c.look.ensures)
 
 pub returns-in-Change : goal.returns-in-Change
@@ -52,7 +52,7 @@ returns-in-Change g c =
     let m = view c.args.store.now in
     let ls = g.R.Registry.leases c.args.registry.now in
     let l = c.args.list.now in
-    let P : Call g.row.K-Edit.Denot → Type 0 = λ z. Performed (step g.K.Kind.ops g.R.Registry.capacity m ls (length l) z) c.change.result (view c.change.new.store) (ls) l l in
+    let P : Call g.row.K-Edit.Denot → Type 0 = λ z. Performed (step g.K.Kind.ops g.R.Registry.capacity m ls (length l) z) (said c.change.result) (view c.change.new.store) ls l l in
     subst P (sym c.in-Change.is) (plain_performed _ _ _ _ l c.change.ensures)
 
 pub returns-in-Commit : goal.returns-in-Commit
@@ -60,7 +60,7 @@ returns-in-Commit g c =
     let m = view c.args.store.now in
     let ls = g.R.Registry.leases c.args.registry.now in
     let l = c.args.list.now in
-    let P : Call g.row.K-Edit.Denot → Type 0 = λ z. Performed (step g.K.Kind.ops g.R.Registry.capacity m ls (length l) z) c.commit.result (view c.commit.new.store) (g.R.Registry.leases c.commit.new.registry) l l in
+    let P : Call g.row.K-Edit.Denot → Type 0 = λ z. Performed (step g.K.Kind.ops g.R.Registry.capacity m ls (length l) z) (said c.commit.result) (view c.commit.new.store) (g.R.Registry.leases c.commit.new.registry) l l in
     subst P (sym c.in-Commit.is) (plain_performed _ _ _ _ l c.commit.ensures)
 
 pub returns-in-Abandon : goal.returns-in-Abandon
@@ -76,7 +76,7 @@ returns-in-Held g c =
     let m = view c.args.store.now in
     let ls = g.R.Registry.leases c.args.registry.now in
     let l = c.args.list.now in
-    let P : Call g.row.K-Edit.Denot → Type 0 = λ z. Performed (step g.K.Kind.ops g.R.Registry.capacity m ls (length l) z) c.held.result m ls l c.held.new.list in
+    let P : Call g.row.K-Edit.Denot → Type 0 = λ z. Performed (step g.K.Kind.ops g.R.Registry.capacity m ls (length l) z) (said c.held.result) m ls l c.held.new.list in
     subst P (sym c.in-Held.is) c.held.ensures
 
 pub returns-in-Kept : goal.returns-in-Kept
@@ -84,7 +84,7 @@ returns-in-Kept g c =
     let m = view c.args.store.now in
     let ls = g.R.Registry.leases c.args.registry.now in
     let l = c.args.list.now in
-    let P : Call g.row.K-Edit.Denot → Type 0 = λ z. Performed (step g.K.Kind.ops g.R.Registry.capacity m ls (length l) z) c.kept.result m ls l c.kept.new.list in
+    let P : Call g.row.K-Edit.Denot → Type 0 = λ z. Performed (step g.K.Kind.ops g.R.Registry.capacity m ls (length l) z) (said c.kept.result) m ls l c.kept.new.list in
     subst P (sym c.in-Kept.is) c.kept.ensures
 
 pub returns-in-InUse : goal.returns-in-InUse
