@@ -118,10 +118,7 @@ fn lists_too_short(rt: HostRuntime) -> Result<(), Fail> {
 fn three_before_four(rt: HostRuntime) -> Result<(), Fail> {
     let scene = [
         by_store(Call::Read(9, 1), 3, 1),
-        x(
-            Call::Look(9, 18446744073709551615),
-            by_store(3, 18446744073709551615),
-        ),
+        by_store(Call::Look(9, 18446744073709551615), 3, 18446744073709551615),
         by_store(set3(9, 1, 5), 3, 1),
         by_store(Call::Kept(1), 3, 1),
         by_registry(Call::Read(9, 0), 4, 9),
