@@ -49,15 +49,13 @@ impl<K: Kind> State<K> {
         ensures { view self.new ≡ one_changed (finish_stored K.ops w t) i (view self.old) }
     {
         let entry = self.records[i];
-        if let Some(v) = entry.holder {
-            if v == w {
-                stamp(&mut self.table, i, t);
-                self.records[i] = Entry {
-                    row: entry.row,
-                    last: t,
-                    holder: None,
-                };
-            }
+        if entry.holder == Some(w) {
+            stamp(&mut self.table, i, t);
+            self.records[i] = Entry {
+                row: entry.row,
+                last: t,
+                holder: None,
+            };
         }
     }
 
@@ -67,15 +65,13 @@ impl<K: Kind> State<K> {
         ensures { view self.new ≡ one_changed (free_stored K.ops w) i (view self.old) }
     {
         let entry = self.records[i];
-        if let Some(v) = entry.holder {
-            if v == w {
-                let row = take_back::<K>(&mut self.table, i, entry.row);
-                self.records[i] = Entry {
-                    row,
-                    last: entry.last,
-                    holder: None,
-                };
-            }
+        if entry.holder == Some(w) {
+            let row = take_back::<K>(&mut self.table, i, entry.row);
+            self.records[i] = Entry {
+                row,
+                last: entry.last,
+                holder: None,
+            };
         }
     }
 

@@ -20,10 +20,7 @@ impl<K: Kind> State<K> {
         ensures { Placed (view self.now) «record» result }
     {
         if record >= self.records.len() as u64 {
-            return Err(StoreFault {
-                cause: StoreCause::NoRecord,
-                place: record,
-            });
+            return Err(StoreCause::NoRecord.at(record));
         }
         Ok(record as usize)
     }
@@ -53,10 +50,8 @@ impl<K: Kind> State<K> {
         ensures { result ≡ looks K.ops (record_at K.ops (view self.now) i) w }
     {
         let entry = self.records[i];
-        if let Some(v) = entry.holder {
-            if v == w {
-                return entry.row;
-            }
+        if entry.holder == Some(w) {
+            return entry.row;
         }
         self.reading(i, w)
     }
