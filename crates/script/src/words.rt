@@ -1,16 +1,26 @@
 ghost use Rattle.std.specs.Prelude.{◌≡◌, ℕ, ◌+◌, ◌≤◌, length};
-ghost use Rattle.script.specs.Words.{words_left, first, rest, judged};
-ghost use Rattle.script.specs.Words.{over};
+ghost use Rattle.script.specs.Commands.{ended};
+ghost use Rattle.script.specs.Words.{words_left, first, rest, over, bad, judged};
 ghost use Rattle.script.specs.Spans.{part};
 
+use crate::fault::{BadWord, ScriptFault};
 use crate::number::number;
-use crate::reader::find;
+use crate::reader::before;
 
 // A word of a line, and the place of its first byte in it.
 #[derive(Clone, Copy)]
 pub struct Word<'a> {
     pub text: &'a [u8],
     pub place: usize,
+}
+
+impl Word<'_> {
+    // This word, told as a bad one.
+    pub fn bad(&self) -> BadWord
+        ensures { result ≡ bad (part self.now) }
+    {
+        BadWord { place: self.place }
+    }
 }
 
 // The words of a line, one after the other.
@@ -43,13 +53,9 @@ impl<'a> Words<'a> {
                 place: end,
             };
         }
-        let rest = &self.line[place..];
-        let n = find(rest, b' ');
-        self.at = place + n + 1;
-        Word {
-            text: &rest[0..n],
-            place,
-        }
+        let text = before(&self.line[place..], b' ');
+        self.at = place + text.len() + 1;
+        Word { text, place }
     }
 
     // The place of the next word, if one is left.
@@ -62,19 +68,22 @@ impl<'a> Words<'a> {
             None
         }
     }
+
+    // What a line's words gave, unless one of them is bad; a word that is left over is bad too, after all others.
+    pub fn end<X: Copy>(&self, given: Result<X, BadWord>, line: usize) -> Result<X, ScriptFault>
+        ensures { result ≡ ended line given (words_left self.now.line.now self.now.at) }
+    {
+        let x = given.map_err(|word| ScriptFault::bad_word(word, line))?;
+        match self.extra() {
+            Some(place) => Err(ScriptFault::bad_word(BadWord { place }, line)),
+            None => Ok(x),
+        }
+    }
 }
 
-// The number of a word, if it is one and at most `most`; else the word's place.
-pub fn judge(word: Word, most: u64) -> Result<u64, usize>
+// The number of a word, if it is one and at most `most`.
+pub fn judge(word: Word, most: u64) -> Result<u64, BadWord>
     ensures { result ≡ judged most (part word.entry) }
 {
-    match number(word.text) {
-        Some(n) => {
-            if n <= most {
-                return Ok(n);
-            }
-            Err(word.place)
-        }
-        None => Err(word.place),
-    }
+    number(word.text).filter(|n| *n <= most).ok_or(word.bad())
 }

@@ -17,8 +17,7 @@ pub returns : goal.returns
 returns c =
     let line = c.args.self.now.line.now in
     let a = c.args.self.now.at in
-    let n = c.find-n.result in
-    let f = c.find-n.ensures in
+    let f = c.before-text.ensures in
     let cut = take (length line - a) (drop a line) in
-    let s = word_step line cut a n (take_rest line a) (omega arith) f.within f.before f.found in
+    let s = word_step line cut c.before-text.result.now a (take_rest line a) (omega arith) f.front f.lacks f.stops in
     record { same = refl; word = sym (ap (first (length line)) s); left = sym (ap rest s) }
