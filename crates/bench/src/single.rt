@@ -34,8 +34,8 @@ fn take_outcome<K: Subject>(
     outcome: Outcome<K::Row>,
     written: &[u32],
 ) {
-    if let Outcome::Refused(number, layer, place) = outcome {
-        tally.refuse(sort, number, layer, place);
+    if let Outcome::Refused(fault) = outcome {
+        tally.refuse(sort, fault);
         return;
     }
     tally.accept(sort);

@@ -75,24 +75,25 @@ impl Tally {
         self.take(sort as u64);
     }
 
-    // A call was refused, with this number, layer and place.
-    pub(crate) fn refuse(&mut self, sort: Sort, number: u8, layer: Layer, place: u64) {
+    // A call was refused: its number, layer and place are taken in.
+    pub(crate) fn refuse(&mut self, sort: Sort, fault: StoreFault) {
+        let number = fault.number();
         raise(&mut self.calls, sort as usize, 1);
         raise(&mut self.refused, number as usize, 1);
         self.take(100 + number as u64);
-        self.take(match layer {
+        self.take(match fault.layer() {
             Layer::Registry => 1,
             Layer::Store => 2,
             Layer::Script => 3,
         });
-        self.take(place);
+        self.take(fault.place);
     }
 
     // A call that answers nothing more was accepted or refused.
     pub(crate) fn settle(&mut self, sort: Sort, done: Result<(), StoreFault>) {
         match done {
             Ok(()) => self.accept(sort),
-            Err(fault) => self.refuse(sort, fault.number(), fault.layer(), fault.place),
+            Err(fault) => self.refuse(sort, fault),
         }
     }
 
