@@ -14,5 +14,5 @@ pub returns : goal.returns
 returns g c =
     let start = from_start c.args.line.now c.new-words.result.line.now c.new-words.result.at c.new-words.ensures.0 c.new-words.ensures.1 in
     let left = words_left c.read_command.new.words.line.now c.read_command.new.words.at in
-    c.end.ensures ∙ ap (λ r. ended c.args.number r left) c.call_of.ensures
-    ∙ sym (call_some g.K.ScriptKind.terms c.args.number c.args.line.now (tell c.in-Some.command) left (sym start ∙ c.in-Some.ensures.taken))
+    ◌∙◌ {b = ended c.args.number c.call_of.result left} c.end.ensures (ap (λ r. ended c.args.number r left) c.call_of.ensures
+    ∙ sym (call_some g.K.ScriptKind.terms c.args.number c.args.line.now (tell c.in-Some.command) left (sym start ∙ c.in-Some.ensures.taken)))
