@@ -15,6 +15,9 @@ pub record Off (l : List ℕ) (a : ℕ) (p : Part) (m : List ℕ) (b : ℕ) : Ty
   pub word : p ≡ first (length l) (words_left l a)
   pub left : words_left m b ≡ rest (words_left l a)
 
+pub off : {l m : List ℕ} {a b : ℕ} {p : Part} → m ≡ l → p ≡ first (length l) (words_left l a) → words_left m b ≡ rest (words_left l a) → Off l a p m b
+off s w r = record { same = s; word = w; left = r }
+
 pub one_off : {l m : List ℕ} {a b : ℕ} {p : Part} (f : Part → Worded) → Off l a p m b → one_taken (length l) f (words_left l a) ≡ Some (record { command = f p; left = words_left m b })
 one_off f o = let w = o.word in let r = o.left in cc
 

@@ -11,7 +11,7 @@ use crate::words::{Word, Words, judge};
 use history::call::Call;
 
 // The largest time, number of a writer or fields value.
-const TOP: u64 = 4294967295;
+const TOP: u64 = u32::MAX as u64;
 
 // A command of a script, with its words as they stand in the line.
 #[derive(Clone, Copy)]
@@ -99,16 +99,12 @@ pub fn call_of<K: ScriptKind>(command: Command) -> Result<Call<K::Edit>, BadWord
     match command {
         Command::Open => Ok(Call::Open),
         Command::Read { time, record } => {
-            let t = judge_time(time)?;
-            let i = judge(record, u64::MAX)?;
-            Ok(Call::Read(t, i))
+            Ok(Call::Read(judge_time(time)?, judge(record, u64::MAX)?))
         }
         Command::Close { time } => Ok(Call::Close(judge_time(time)?)),
         Command::Begin => Ok(Call::Begin),
         Command::Look { writer, record } => {
-            let w = judge_time(writer)?;
-            let i = judge(record, u64::MAX)?;
-            Ok(Call::Look(w, i))
+            Ok(Call::Look(judge_time(writer)?, judge(record, u64::MAX)?))
         }
         Command::Change {
             writer,

@@ -29,7 +29,7 @@ pub trait ScriptKind: Kind {
     fn set(attribute: u64, value: u64) -> Self::Edit
         ensures { result ≡ terms.set attribute value };
 
-    // A number of those that a row tells.
+    // A number of those that a row tells, or 0 past the last. One by one: a row of any kind cannot be lent as a slice.
     fn number(row: Self::Row, i: usize) -> u64
         ensures { result ≡ slice_index (Self.ops.tells row) i };
 

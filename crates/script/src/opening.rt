@@ -36,6 +36,7 @@ pub struct Opening {
     pub start: u64,
 }
 
+// A kind and a registry have a table of two letters each: a conversion of each would need an error type, and be no plainer.
 fn kind_letter(text: &[u8]) -> Option<KindLetter>
     ensures { result ≡ kind_of (letter_of_word text.now) }
 {

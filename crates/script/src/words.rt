@@ -23,7 +23,7 @@ impl Word<'_> {
     }
 }
 
-// The words of a line, one after the other.
+// The words of a line, one after the other; behind the last word, `at` stands one past the line's end.
 #[derive(Drop)]
 pub struct Words<'a> {
     line: &'a [u8],
@@ -46,14 +46,13 @@ impl<'a> Words<'a> {
         ensures left { words_left self.new.line.now self.new.at ≡ rest (words_left self.old.line.now self.old.at) }
     {
         let place = self.at;
-        let end = self.line.len();
-        if place > end {
+        let Some(rest) = self.line.get(place..) else {
             return Word {
-                text: &self.line[end..],
-                place: end,
+                text: &[],
+                place: self.line.len(),
             };
-        }
-        let text = before(&self.line[place..], b' ');
+        };
+        let text = before(rest, b' ');
         self.at = place + text.len() + 1;
         Word { text, place }
     }

@@ -6,7 +6,6 @@ use std::test::Fail;
 fn no_known_kind(rt: HostRuntime) -> Result<(), Fail> {
     refused_first(
         &rt,
-        rt.alloc(),
         "\
 f S 1 1 0 > refused 11 S 0 at 1
  > refused 11 S 0 at 1
@@ -27,7 +26,6 @@ FT S 1 1 0 > refused 11 S 0 at 1
 fn a_word_is_missing(rt: HostRuntime) -> Result<(), Fail> {
     refused_first(
         &rt,
-        rt.alloc(),
         "\
 F > refused 12 S 1 at 1
 T > refused 12 S 1 at 1
@@ -43,7 +41,6 @@ F S 1 1 > refused 12 S 7 at 1
 fn a_word_is_empty(rt: HostRuntime) -> Result<(), Fail> {
     refused_first(
         &rt,
-        rt.alloc(),
         "\
 F  > refused 12 S 2 at 1
 F  S 1 1 0 > refused 12 S 2 at 1
@@ -62,7 +59,6 @@ F S 1 1  0 > refused 12 S 8 at 1
 fn a_word_is_extra(rt: HostRuntime) -> Result<(), Fail> {
     refused_first(
         &rt,
-        rt.alloc(),
         "\
 F S 1 1 0  > refused 12 S 10 at 1
 F S 1 1 0 0 > refused 12 S 10 at 1
@@ -76,7 +72,6 @@ F S 1 1 0   > refused 12 S 10 at 1
 fn a_word_is_malformed(rt: HostRuntime) -> Result<(), Fail> {
     refused_first(
         &rt,
-        rt.alloc(),
         "\
 F X 1 1 0 > refused 12 S 2 at 1
 F s 1 1 0 > refused 12 S 2 at 1
@@ -96,7 +91,6 @@ F S 1 1 0x0 > refused 12 S 8 at 1
 fn a_size_is_out_of_range(rt: HostRuntime) -> Result<(), Fail> {
     refused_first(
         &rt,
-        rt.alloc(),
         "\
 F S 65 1 0 > refused 12 S 4 at 1
 T L 65 256 0 > refused 12 S 4 at 1
@@ -114,7 +108,6 @@ F S 1 1 18446744073709551616 > refused 12 S 8 at 1
 fn the_first_bad_word_counts(rt: HostRuntime) -> Result<(), Fail> {
     refused_first(
         &rt,
-        rt.alloc(),
         "\
 F X 65 257 x > refused 12 S 2 at 1
 F S 65 257 x > refused 12 S 4 at 1
@@ -133,7 +126,6 @@ F S 0 1 > refused 12 S 7 at 1
 fn the_store_refuses_the_sizes(rt: HostRuntime) -> Result<(), Fail> {
     refused_first(
         &rt,
-        rt.alloc(),
         "\
 F S 0 1 0 > refused 1 B 0 at 1
 F S 1 0 0 > refused 1 B 0 at 1
@@ -151,7 +143,6 @@ F S 1 1 00000000004294967296 > refused 2 B 4294967296 at 1
 fn the_greatest_sizes(rt: HostRuntime) -> Result<(), Fail> {
     table(
         &rt,
-        rt.alloc(),
         "\
 F S 64 256 4294967295
 o > report 4294967295
@@ -162,7 +153,6 @@ r 4294967295 64 > refused 3 B 64 at 4
     )?;
     table(
         &rt,
-        rt.alloc(),
         "\
 T L 64 256 4294967295
 o > report 4294967295
@@ -173,7 +163,6 @@ r 4294967295 64 > refused 3 B 64 at 4
     )?;
     table(
         &rt,
-        rt.alloc(),
         "\
 F S 1 1 00000000000000000007
 o > report 7
@@ -182,7 +171,6 @@ o > report 7
     )?;
     table(
         &rt,
-        rt.alloc(),
         "\
 T S 01 001 0
 o > report 0

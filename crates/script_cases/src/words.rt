@@ -8,7 +8,6 @@ use std::test::Fail;
 fn unknown_letters_of_lines(rt: HostRuntime) -> Result<(), Fail> {
     table(
         &rt,
-        rt.alloc(),
         "\
 F S 1 1 0
  > refused 11 S 0 at 2
@@ -34,7 +33,6 @@ or 0 0 > refused 11 S 0 at 13
 fn open_and_begin_take_no_word(rt: HostRuntime) -> Result<(), Fail> {
     table(
         &rt,
-        rt.alloc(),
         "\
 F S 1 1 0
 o  > refused 12 S 2 at 2
@@ -52,7 +50,6 @@ b x y > refused 12 S 2 at 7
 fn words_of_close(rt: HostRuntime) -> Result<(), Fail> {
     table(
         &rt,
-        rt.alloc(),
         "\
 F S 1 1 0
 c > refused 12 S 1 at 2
@@ -76,7 +73,6 @@ c 4294967295 x > refused 12 S 13 at 13
 fn words_of_commit(rt: HostRuntime) -> Result<(), Fail> {
     table(
         &rt,
-        rt.alloc(),
         "\
 F S 1 1 0
 m > refused 12 S 1 at 2
@@ -100,7 +96,6 @@ m 4294967295 x > refused 12 S 13 at 13
 fn words_of_abandon(rt: HostRuntime) -> Result<(), Fail> {
     table(
         &rt,
-        rt.alloc(),
         "\
 F S 1 1 0
 a > refused 12 S 1 at 2
@@ -124,7 +119,6 @@ a 4294967295 x > refused 12 S 13 at 13
 fn words_of_kept(rt: HostRuntime) -> Result<(), Fail> {
     table(
         &rt,
-        rt.alloc(),
         "\
 F S 1 1 0
 v > refused 12 S 1 at 2
@@ -147,7 +141,6 @@ v 18446744073709551615 0 > refused 12 S 23 at 12
 fn words_of_read(rt: HostRuntime) -> Result<(), Fail> {
     table(
         &rt,
-        rt.alloc(),
         "\
 F S 1 1 0
 r > refused 12 S 1 at 2
@@ -174,7 +167,6 @@ r x y z > refused 12 S 2 at 16
 fn words_of_look(rt: HostRuntime) -> Result<(), Fail> {
     table(
         &rt,
-        rt.alloc(),
         "\
 F S 1 1 0
 g > refused 12 S 1 at 2
@@ -201,7 +193,6 @@ g x y z > refused 12 S 2 at 16
 fn words_of_change(rt: HostRuntime) -> Result<(), Fail> {
     table(
         &rt,
-        rt.alloc(),
         "\
 F S 1 1 0
 e > refused 12 S 1 at 2
@@ -221,7 +212,6 @@ e 0 0  > refused 12 S 6 at 13
     )?;
     table(
         &rt,
-        rt.alloc(),
         "\
 F S 1 1 0
 e 0 0  0 > refused 12 S 6 at 2
@@ -247,7 +237,6 @@ e 0 0 8 4294967296 0 > refused 12 S 6 at 14
 fn words_of_change_for_tallies(rt: HostRuntime) -> Result<(), Fail> {
     table(
         &rt,
-        rt.alloc(),
         "\
 T L 1 1 0
 e 0 0 4 0 > refused 12 S 6 at 2
@@ -262,7 +251,6 @@ e 0 0 3 0 1 > refused 12 S 10 at 8
     )?;
     table(
         &rt,
-        rt.alloc(),
         "\
 T L 1 1 0
 e 1 0 3 18446744073709551615 > refused 4 R 1 at 2
@@ -279,7 +267,6 @@ g 1 0 > row 0 0 0 18446744073709551615
 fn numbers(rt: HostRuntime) -> Result<(), Fail> {
     table(
         &rt,
-        rt.alloc(),
         "\
 F S 1 1 0
 o > report 0
@@ -298,7 +285,6 @@ c 00000000000000000000 > closed
 fn the_line_is_judged_before_the_call(rt: HostRuntime) -> Result<(), Fail> {
     table(
         &rt,
-        rt.alloc(),
         "\
 F S 1 1 0
 b > writer 1
