@@ -1,12 +1,18 @@
 // Compares what scripts print with what they must.
-use std::alloc::AllocError;
+use std::alloc::{AllocError, Global};
 use std::fmt::Write;
+use std::process::Abort;
 use std::test::Fail;
 use transcript::whole::transcript;
 
-// A whole script.
-pub(crate) fn prints(rt: &HostRuntime, script: &[u8], wanted: &str) -> Result<(), Fail> {
-    match transcript(rt.alloc(), script) {
+// A whole script. The heap comes beside `rt`: what may stop a test has no allocator.
+pub(crate) fn prints(
+    rt: &impl Abort,
+    heap: Global,
+    script: &[u8],
+    wanted: &str,
+) -> Result<(), Fail> {
+    match transcript(heap, script) {
         Ok(text) => {
             assert_eq!(rt; text.as_str(), wanted);
             Ok(())
@@ -31,41 +37,42 @@ fn put_row(script: &mut String, wanted: &mut String, row: &str) -> Result<(), Al
 }
 
 // A script and its transcript, side by side.
-pub(crate) fn table(rt: &HostRuntime, rows: &str) -> Result<(), Fail> {
-    let mut script = String::new(rt.alloc());
-    let mut wanted = String::new(rt.alloc());
+pub(crate) fn table(rt: &impl Abort, heap: Global, rows: &str) -> Result<(), Fail> {
+    let mut script = String::new(heap);
+    let mut wanted = String::new(heap);
     for row in rows.lines() {
         put_row(&mut script, &mut wanted, row)?;
     }
-    prints(rt, script.as_bytes(), wanted.as_str())
+    prints(rt, heap, script.as_bytes(), wanted.as_str())
 }
 
 // First lines that are refused, each with its refusal; the line behind it is not run.
-pub(crate) fn refused_first(rt: &HostRuntime, rows: &str) -> Result<(), Fail> {
+pub(crate) fn refused_first(rt: &impl Abort, heap: Global, rows: &str) -> Result<(), Fail> {
     for row in rows.lines() {
-        let mut script = String::new(rt.alloc());
-        let mut wanted = String::new(rt.alloc());
+        let mut script = String::new(heap);
+        let mut wanted = String::new(heap);
         put_row(&mut script, &mut wanted, row)?;
         writeln!(script, "b")?;
-        prints(rt, script.as_bytes(), wanted.as_str())?;
+        prints(rt, heap, script.as_bytes(), wanted.as_str())?;
     }
     Ok(())
 }
 
 // A registry of a capacity: so many leases open at time 0, then neither another nor a writer's.
 pub(crate) fn full(
-    rt: &HostRuntime,
+    rt: &impl Abort,
+    heap: Global,
     first: &str,
     capacity: u32,
     refused: &str,
 ) -> Result<(), Fail> {
-    let mut script = String::new(rt.alloc());
-    let mut wanted = String::new(rt.alloc());
+    let mut script = String::new(heap);
+    let mut wanted = String::new(heap);
     writeln!(script, "{first}")?;
     for _ in 0..capacity {
         put_row(&mut script, &mut wanted, "o > report 0")?;
     }
     script.push_str("o\nb\n")?;
     wanted.push_str(refused)?;
-    prints(rt, script.as_bytes(), wanted.as_str())
+    prints(rt, heap, script.as_bytes(), wanted.as_str())
 }

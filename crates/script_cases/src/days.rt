@@ -6,11 +6,13 @@ use std::test::Fail;
 fn a_truck_is_weighed_twice(rt: HostRuntime) -> Result<(), Fail> {
     prints(
         &rt,
+        rt.alloc(),
         b"F S 2 2 0\nb\ne 1 0 3 8500\nm 1\no\nb\ne 3 0 3 8700\nm 3\nr 2 0\nv 0\nc 2\nc 2\n",
         "writer 1\nchanged\ncommitted 2 1\nreport 2\nwriter 3\nchanged\ncommitted 4 1\nrow 0 0 0 8500 0 0 0 0\nkept 1 4\nclosed\nrefused 4 R 2 at 12\nend 0 0\n",
     )?;
     prints(
         &rt,
+        rt.alloc(),
         b"F S 2 2 0\nb\ne 1 0 3 8500\nm 1\no\nb\ne 3 0 3 8700\nm 3\nr 2 0\nv 0\nc 2\nc 2",
         "writer 1\nchanged\ncommitted 2 1\nreport 2\nwriter 3\nchanged\ncommitted 4 1\nrow 0 0 0 8500 0 0 0 0\nkept 1 4\nclosed\nrefused 4 R 2 at 12\nend 0 0\n",
     )
@@ -21,6 +23,7 @@ fn a_truck_is_weighed_twice(rt: HostRuntime) -> Result<(), Fail> {
 fn a_report_keeps_its_moment(rt: HostRuntime) -> Result<(), Fail> {
     table(
         &rt,
+        rt.alloc(),
         "\
 F S 1 4 0
 o > report 0
@@ -52,6 +55,7 @@ v 0 > kept 0
 fn tallies_over_the_brim(rt: HostRuntime) -> Result<(), Fail> {
     table(
         &rt,
+        rt.alloc(),
         "\
 T L 1 3 0
 o > report 0
@@ -81,6 +85,7 @@ r 0 0 > row 0 0 0 0
 fn a_join_lets_the_older_value_stand(rt: HostRuntime) -> Result<(), Fail> {
     table(
         &rt,
+        rt.alloc(),
         "\
 F L 1 3 0
 b > writer 1
@@ -106,6 +111,7 @@ r 2 0 > row 0 0 0 85 0 0 0 0
 fn a_value_comes_back(rt: HostRuntime) -> Result<(), Fail> {
     table(
         &rt,
+        rt.alloc(),
         "\
 F S 1 4 0
 b > writer 1
@@ -126,6 +132,7 @@ r 2 0 > row 0 0 0 85 0 0 0 0
     )?;
     table(
         &rt,
+        rt.alloc(),
         "\
 F S 1 4 0
 b > writer 1
@@ -153,6 +160,7 @@ r 2 0 > row 0 0 0 85 0 0 0 0
 fn no_change_leaves_the_newer_time(rt: HostRuntime) -> Result<(), Fail> {
     table(
         &rt,
+        rt.alloc(),
         "\
 F S 1 4 0
 o > report 0
@@ -179,6 +187,7 @@ v 0 > kept 1 4
 fn a_closed_writer_is_stranded(rt: HostRuntime) -> Result<(), Fail> {
     table(
         &rt,
+        rt.alloc(),
         "\
 F S 1 2 0
 b > writer 1
@@ -206,6 +215,7 @@ m 2 > committed 3 1
 fn a_report_may_write(rt: HostRuntime) -> Result<(), Fail> {
     table(
         &rt,
+        rt.alloc(),
         "\
 T S 2 2 5
 o > report 5
@@ -226,6 +236,7 @@ c 7 > closed
 fn commit_finishes_all_that_is_held(rt: HostRuntime) -> Result<(), Fail> {
     table(
         &rt,
+        rt.alloc(),
         "\
 F S 3 3 10
 b > writer 11
@@ -254,6 +265,7 @@ m 13 > committed 13 0
 fn two_leases_at_one_time(rt: HostRuntime) -> Result<(), Fail> {
     table(
         &rt,
+        rt.alloc(),
         "\
 F L 1 2 0
 o > report 0

@@ -18,6 +18,7 @@ fn the_longest_script(rt: HostRuntime) -> Result<(), Fail> {
     assert_eq!(rt; script.len(), 65536);
     prints(
         &rt,
+        rt.alloc(),
         script.as_slice(),
         "refused 11 S 0 at 2\nend 0 0\n",
     )
@@ -29,6 +30,7 @@ fn one_byte_too_many(rt: HostRuntime) -> Result<(), Fail> {
     assert_eq!(rt; script.len(), 65537);
     prints(
         &rt,
+        rt.alloc(),
         script.as_slice(),
         "refused 12 S 65536 at 0\n",
     )

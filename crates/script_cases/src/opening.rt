@@ -6,6 +6,7 @@ use std::test::Fail;
 fn no_known_kind(rt: HostRuntime) -> Result<(), Fail> {
     refused_first(
         &rt,
+        rt.alloc(),
         "\
 f S 1 1 0 > refused 11 S 0 at 1
  > refused 11 S 0 at 1
@@ -26,6 +27,7 @@ FT S 1 1 0 > refused 11 S 0 at 1
 fn a_word_is_missing(rt: HostRuntime) -> Result<(), Fail> {
     refused_first(
         &rt,
+        rt.alloc(),
         "\
 F > refused 12 S 1 at 1
 T > refused 12 S 1 at 1
@@ -41,6 +43,7 @@ F S 1 1 > refused 12 S 7 at 1
 fn a_word_is_empty(rt: HostRuntime) -> Result<(), Fail> {
     refused_first(
         &rt,
+        rt.alloc(),
         "\
 F  > refused 12 S 2 at 1
 F  S 1 1 0 > refused 12 S 2 at 1
@@ -59,6 +62,7 @@ F S 1 1  0 > refused 12 S 8 at 1
 fn a_word_is_extra(rt: HostRuntime) -> Result<(), Fail> {
     refused_first(
         &rt,
+        rt.alloc(),
         "\
 F S 1 1 0  > refused 12 S 10 at 1
 F S 1 1 0 0 > refused 12 S 10 at 1
@@ -72,6 +76,7 @@ F S 1 1 0   > refused 12 S 10 at 1
 fn a_word_is_malformed(rt: HostRuntime) -> Result<(), Fail> {
     refused_first(
         &rt,
+        rt.alloc(),
         "\
 F X 1 1 0 > refused 12 S 2 at 1
 F s 1 1 0 > refused 12 S 2 at 1
@@ -91,6 +96,7 @@ F S 1 1 0x0 > refused 12 S 8 at 1
 fn a_size_is_out_of_range(rt: HostRuntime) -> Result<(), Fail> {
     refused_first(
         &rt,
+        rt.alloc(),
         "\
 F S 65 1 0 > refused 12 S 4 at 1
 T L 65 256 0 > refused 12 S 4 at 1
@@ -108,6 +114,7 @@ F S 1 1 18446744073709551616 > refused 12 S 8 at 1
 fn the_first_bad_word_counts(rt: HostRuntime) -> Result<(), Fail> {
     refused_first(
         &rt,
+        rt.alloc(),
         "\
 F X 65 257 x > refused 12 S 2 at 1
 F S 65 257 x > refused 12 S 4 at 1
@@ -126,6 +133,7 @@ F S 0 1 > refused 12 S 7 at 1
 fn the_store_refuses_the_sizes(rt: HostRuntime) -> Result<(), Fail> {
     refused_first(
         &rt,
+        rt.alloc(),
         "\
 F S 0 1 0 > refused 1 B 0 at 1
 F S 1 0 0 > refused 1 B 0 at 1
@@ -143,6 +151,7 @@ F S 1 1 00000000004294967296 > refused 2 B 4294967296 at 1
 fn the_greatest_sizes(rt: HostRuntime) -> Result<(), Fail> {
     table(
         &rt,
+        rt.alloc(),
         "\
 F S 64 256 4294967295
 o > report 4294967295
@@ -153,6 +162,7 @@ r 4294967295 64 > refused 3 B 64 at 4
     )?;
     table(
         &rt,
+        rt.alloc(),
         "\
 T L 64 256 4294967295
 o > report 4294967295
@@ -163,6 +173,7 @@ r 4294967295 64 > refused 3 B 64 at 4
     )?;
     table(
         &rt,
+        rt.alloc(),
         "\
 F S 1 1 00000000000000000007
 o > report 7
@@ -171,6 +182,7 @@ o > report 7
     )?;
     table(
         &rt,
+        rt.alloc(),
         "\
 T S 01 001 0
 o > report 0

@@ -7,6 +7,7 @@ use std::test::Fail;
 fn no_such_record(rt: HostRuntime) -> Result<(), Fail> {
     table(
         &rt,
+        rt.alloc(),
         "\
 F S 2 2 0
 v 2 > refused 3 B 2 at 2
@@ -24,6 +25,7 @@ v 1 > kept 0
 fn no_lease_open(rt: HostRuntime) -> Result<(), Fail> {
     table(
         &rt,
+        rt.alloc(),
         "\
 T L 1 1 3
 r 3 0 > refused 4 R 3 at 2
@@ -46,6 +48,7 @@ c 3 > refused 4 R 3 at 11
 fn held_by_another_writer(rt: HostRuntime) -> Result<(), Fail> {
     table(
         &rt,
+        rt.alloc(),
         "\
 F S 2 1 0
 b > writer 1
@@ -68,6 +71,7 @@ g 2 0 > row 0 0 20 0 0 0 0 0
 fn last_time_above_the_writer(rt: HostRuntime) -> Result<(), Fail> {
     table(
         &rt,
+        rt.alloc(),
         "\
 F L 2 4 0
 b > writer 1
@@ -100,6 +104,7 @@ r 5 0 > refused 4 R 5 at 21
 fn the_chain_is_gone_and_the_last_time_stays(rt: HostRuntime) -> Result<(), Fail> {
     table(
         &rt,
+        rt.alloc(),
         "\
 F S 1 1 0
 b > writer 1
@@ -119,6 +124,7 @@ m 1 > committed 3 0
 fn every_version_in_use(rt: HostRuntime) -> Result<(), Fail> {
     table(
         &rt,
+        rt.alloc(),
         "\
 F S 3 2 0
 b > writer 1
@@ -149,6 +155,7 @@ r 3 2 > refused 4 R 3 at 19
 fn the_clock_at_its_limit(rt: HostRuntime) -> Result<(), Fail> {
     table(
         &rt,
+        rt.alloc(),
         "\
 F S 1 1 4294967294
 b > writer 4294967295
@@ -165,6 +172,7 @@ m 4294967295 > refused 4 R 4294967295 at 10
     )?;
     table(
         &rt,
+        rt.alloc(),
         "\
 T L 1 1 4294967293
 b > writer 4294967294
@@ -182,12 +190,14 @@ r 4294967295 0 > row 0 0 0 9
 fn slots_are_full(rt: HostRuntime) -> Result<(), Fail> {
     full(
         &rt,
+        rt.alloc(),
         "F L 1 1 0",
         8,
         "refused 8 R 8 at 10\nrefused 8 R 8 at 11\nend 0 8\n",
     )?;
     table(
         &rt,
+        rt.alloc(),
         "\
 F L 1 1 4294967291
 o > report 4294967291
@@ -214,6 +224,7 @@ o > refused 8 R 8 at 15
 fn the_sorted_list_is_full(rt: HostRuntime) -> Result<(), Fail> {
     full(
         &rt,
+        rt.alloc(),
         "T S 1 1 0",
         32,
         "refused 8 R 32 at 34\nrefused 8 R 32 at 35\nend 0 32\n",

@@ -8,6 +8,7 @@ use std::test::Fail;
 fn unknown_letters_of_lines(rt: HostRuntime) -> Result<(), Fail> {
     table(
         &rt,
+        rt.alloc(),
         "\
 F S 1 1 0
  > refused 11 S 0 at 2
@@ -33,6 +34,7 @@ or 0 0 > refused 11 S 0 at 13
 fn open_and_begin_take_no_word(rt: HostRuntime) -> Result<(), Fail> {
     table(
         &rt,
+        rt.alloc(),
         "\
 F S 1 1 0
 o  > refused 12 S 2 at 2
@@ -50,6 +52,7 @@ b x y > refused 12 S 2 at 7
 fn words_of_close(rt: HostRuntime) -> Result<(), Fail> {
     table(
         &rt,
+        rt.alloc(),
         "\
 F S 1 1 0
 c > refused 12 S 1 at 2
@@ -73,6 +76,7 @@ c 4294967295 x > refused 12 S 13 at 13
 fn words_of_commit(rt: HostRuntime) -> Result<(), Fail> {
     table(
         &rt,
+        rt.alloc(),
         "\
 F S 1 1 0
 m > refused 12 S 1 at 2
@@ -96,6 +100,7 @@ m 4294967295 x > refused 12 S 13 at 13
 fn words_of_abandon(rt: HostRuntime) -> Result<(), Fail> {
     table(
         &rt,
+        rt.alloc(),
         "\
 F S 1 1 0
 a > refused 12 S 1 at 2
@@ -119,6 +124,7 @@ a 4294967295 x > refused 12 S 13 at 13
 fn words_of_kept(rt: HostRuntime) -> Result<(), Fail> {
     table(
         &rt,
+        rt.alloc(),
         "\
 F S 1 1 0
 v > refused 12 S 1 at 2
@@ -141,6 +147,7 @@ v 18446744073709551615 0 > refused 12 S 23 at 12
 fn words_of_read(rt: HostRuntime) -> Result<(), Fail> {
     table(
         &rt,
+        rt.alloc(),
         "\
 F S 1 1 0
 r > refused 12 S 1 at 2
@@ -167,6 +174,7 @@ r x y z > refused 12 S 2 at 16
 fn words_of_look(rt: HostRuntime) -> Result<(), Fail> {
     table(
         &rt,
+        rt.alloc(),
         "\
 F S 1 1 0
 g > refused 12 S 1 at 2
@@ -193,6 +201,7 @@ g x y z > refused 12 S 2 at 16
 fn words_of_change(rt: HostRuntime) -> Result<(), Fail> {
     table(
         &rt,
+        rt.alloc(),
         "\
 F S 1 1 0
 e > refused 12 S 1 at 2
@@ -212,6 +221,7 @@ e 0 0  > refused 12 S 6 at 13
     )?;
     table(
         &rt,
+        rt.alloc(),
         "\
 F S 1 1 0
 e 0 0  0 > refused 12 S 6 at 2
@@ -237,6 +247,7 @@ e 0 0 8 4294967296 0 > refused 12 S 6 at 14
 fn words_of_change_for_tallies(rt: HostRuntime) -> Result<(), Fail> {
     table(
         &rt,
+        rt.alloc(),
         "\
 T L 1 1 0
 e 0 0 4 0 > refused 12 S 6 at 2
@@ -251,6 +262,7 @@ e 0 0 3 0 1 > refused 12 S 10 at 8
     )?;
     table(
         &rt,
+        rt.alloc(),
         "\
 T L 1 1 0
 e 1 0 3 18446744073709551615 > refused 4 R 1 at 2
@@ -267,6 +279,7 @@ g 1 0 > row 0 0 0 18446744073709551615
 fn numbers(rt: HostRuntime) -> Result<(), Fail> {
     table(
         &rt,
+        rt.alloc(),
         "\
 F S 1 1 0
 o > report 0
@@ -285,6 +298,7 @@ c 00000000000000000000 > closed
 fn the_line_is_judged_before_the_call(rt: HostRuntime) -> Result<(), Fail> {
     table(
         &rt,
+        rt.alloc(),
         "\
 F S 1 1 0
 b > writer 1

@@ -1,8 +1,8 @@
-use Rattle.std.proofs.Common.{◌≡◌, ◌+◌, ◌-◌, ◌*◌, ◌<◌, ◌≤◌, length, get_or, drop, Some, sym, ap, ◌∙◌, ⊎_elim, arith}
+use Rattle.std.proofs.Common.{◌+◌, ◌<◌, ◌≤◌, length, get_or, drop, Some, sym, ap, ◌∙◌, ⊎_elim, arith}
 use Rattle.std.proofs.lemmas.Bool.{eqb-false, eqb-true}
 use Rattle.std.proofs.lemmas.List.{at_drop_more, at_drop_all}
 use Rattle.script.specs.Words.{read_on, digits}
-use Rattle.script.proofs.Cuts.{number_none, number_long, number_bad, number_over, number_good, digits_off, digits_on}
+use Rattle.script.proofs.Cuts.{number_none, number_long, number_bad, number_over, number_good, digits_off}
 use Rattle.script.proofs.number.number.Goals as goal
 
 pub returns-then-is_empty : goal.returns-then-is_empty
@@ -31,19 +31,6 @@ returns-in_err-n c =
     let m = c.in_ok-checked_mul.ensures in
     c.from_residual-in_err-n.ensures
     ∙ number_over xs (drop (i + 1) xs) c.loop-b.n (get_or xs i 0) (sym (at_drop_more (read_on c.loop-b.n) xs i 0 c.loop-b-test.true) ∙ c.loop-b.invariant.0) (λ h. c.in_err-n.ensures (omega (arith, m.1)))
-
-pub loop-b-preserved : goal.loop-b-preserved
-loop-b-preserved c =
-    let xs = c.args.text.now in
-    let i = c.loop-b.b-index in
-    let h = c.loop-b-test.true in
-    let m = c.in_ok-checked_mul.ensures in
-    let s = c.in_ok-n.ensures in
-    let next : c.in_ok-n.n ≡ c.loop-b.n * 10 + (get_or xs i 0 - 48) = omega (arith, m.1, s.1) in (
-      ap (λ n. read_on n (drop (i + 1) xs)) next ∙ sym (at_drop_more (read_on c.loop-b.n) xs i 0 h) ∙ c.loop-b.invariant.0,
-      sym (at_drop_more digits xs i 0 h ∙ digits_on (get_or xs i 0) (drop (i + 1) xs) c.if-not-is_ascii_digit.ensures.cases) ∙ c.loop-b.invariant.1,
-      omega (arith, s.0, s.1),
-    )
 
 pub returns : goal.returns
 returns c =
