@@ -1,7 +1,6 @@
 -- Words taken off a line one after the other are those of a command, and a command's call is the line's.
 use Rattle.std.proofs.Common.{◌≡◌, ℕ, List, [], ◌∷◌, length, Some, None, Ok, Err, sym, refl, ap, ◌∙◌, arith}
 use Rattle.std.proofs.lemmas.Bool.{ne_eqb}
-use Rattle.history.specs.declared.call.Call.{Call}
 use Rattle.script.specs.Card.{unknown_letter_fault, bad_word_fault}
 use Rattle.script.specs.Commands.{Worded, one_taken, two_taken, four_taken, command_of, call_of_words, ended, asked, letter_of_word, known, line_command, line_call}
 use Rattle.script.specs.Kinds.{Terms}
@@ -15,6 +14,9 @@ pub record Off (l : List ℕ) (a : ℕ) (p : Part) (m : List ℕ) (b : ℕ) : Ty
   pub same : m ≡ l
   pub word : p ≡ first (length l) (words_left l a)
   pub left : words_left m b ≡ rest (words_left l a)
+
+pub off : {l m : List ℕ} {a b : ℕ} {p : Part} → m ≡ l → p ≡ first (length l) (words_left l a) → words_left m b ≡ rest (words_left l a) → Off l a p m b
+off s w r = record { same = s; word = w; left = r }
 
 pub one_off : {l m : List ℕ} {a b : ℕ} {p : Part} (f : Part → Worded) → Off l a p m b → one_taken (length l) f (words_left l a) ≡ Some (record { command = f p; left = words_left m b })
 one_off f o = let w = o.word in let r = o.left in cc
@@ -58,9 +60,10 @@ line_unknown {l} {m} {a} {b} {p} o e =
 pub from_start : (l m : List ℕ) (a : ℕ) → m ≡ l → a ≡ 0 → line_command (length m) (words_left m a) ≡ line_command (length l) (words l)
 from_start l m a e z = ap (λ x. line_command (length m) (words_left m x)) z ∙ ap (λ x. line_command (length x) (words_left x 0)) e ∙ ap (line_command (length l)) (all_words l)
 
-pub ended_more : {X : Type 0} (k : ℕ) (x : X) (ws : List Part) (p : ℕ) → over ws ≡ Some p → ended k (Ok x) ws ≡ Err (bad_word_fault k p)
+-- a word that is left over is bad, and else nothing is
+pub ended_more : {X : Type 0} (k : ℕ) (x : X) (ws : List Part) (p : ℕ) → over ws ≡ Some p → ended k (Ok x) ws ≡ Err (bad_word_fault k (record { place = p }))
 ended_more k x [] p g = let z : ◌≡◌ {A = ℕ} 0 1 = cc in absurd (omega arith)
-ended_more k x (w ∷ ws) p g = let q : w.place ≡ p = cc in ap (λ y. Err (bad_word_fault k y)) q
+ended_more k x (w ∷ ws) p g = let q : w.place ≡ p = cc in ap (λ y. Err (bad_word_fault k (record { place = y }))) q
 
 pub ended_done : {X : Type 0} (k : ℕ) (x : X) (ws : List Part) → over ws ≡ None → ended k (Ok x) ws ≡ Ok x
 ended_done k x [] g = refl
@@ -71,17 +74,9 @@ module _ {Edit : Type 0} (t : Terms Edit) (k : ℕ) (l : List ℕ) where
   unfolding line_call
   call_none e = ap (asked t k) e
 
-  pub call_bad : (c : Worded) (ws : List Part) (p : ℕ) → line_command (length l) (words l) ≡ Some (record { command = c; left = ws }) → call_of_words t c ≡ Err p → line_call t k l ≡ Err (bad_word_fault k p)
+  pub call_some : (c : Worded) (ws : List Part) → line_command (length l) (words l) ≡ Some (record { command = c; left = ws }) → line_call t k l ≡ ended k (call_of_words t c) ws
   unfolding line_call
-  call_bad c ws p e f = ap (asked t k) e ∙ ap (λ r. ended k r ws) f
-
-  pub call_more : (c : Worded) (ws : List Part) (x : Call Edit) (p : ℕ) → line_command (length l) (words l) ≡ Some (record { command = c; left = ws }) → call_of_words t c ≡ Ok x → over ws ≡ Some p → line_call t k l ≡ Err (bad_word_fault k p)
-  unfolding line_call
-  call_more c ws x p e f g = ap (asked t k) e ∙ ap (λ r. ended k r ws) f ∙ ended_more k x ws p g
-
-  pub call_done : (c : Worded) (ws : List Part) (x : Call Edit) → line_command (length l) (words l) ≡ Some (record { command = c; left = ws }) → call_of_words t c ≡ Ok x → over ws ≡ None → line_call t k l ≡ Ok x
-  unfolding line_call
-  call_done c ws x e f g = ap (asked t k) e ∙ ap (λ r. ended k r ws) f ∙ ended_done k x ws g
+  call_some c ws e = ap (asked t k) e
 
 -- the first line, as the code begins it: l' and a' are the line and place of its words
 module _ (l l' : List ℕ) (a' : ℕ) (line : l' ≡ l) (start : a' ≡ 0) {p : Part} {l₁ : List ℕ} {a₁ : ℕ} (off : Off l' a' p l₁ a₁) where

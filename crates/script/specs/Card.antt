@@ -9,6 +9,7 @@ use Rattle.history.specs.declared.fault.StoreFault.{StoreFault}
 use Rattle.history.specs.Card.{fault_number, fault_layer}
 use Rattle.script.specs.declared.fault.ScriptCause.{ScriptCause}
 use Rattle.script.specs.declared.fault.ScriptCause.TheVariants.{UnknownLetter, BadWord, TooLong, FromStore}
+use Rattle.script.specs.declared.fault.BadWord.{BadWord as bad_word}
 use Rattle.script.specs.declared.fault.ScriptFault.{ScriptFault}
 
 abbrev pub script_number : ScriptCause → ℕ
@@ -26,8 +27,8 @@ script_layer (FromStore f) = fault_layer f.cause
 abbrev pub unknown_letter_fault : ℕ → ScriptFault
 unknown_letter_fault n = record { cause = UnknownLetter; place = 0; line = n }
 
-abbrev pub bad_word_fault : ℕ → ℕ → ScriptFault
-bad_word_fault n p = record { cause = BadWord; place = p; line = n }
+abbrev pub bad_word_fault : ℕ → bad_word → ScriptFault
+bad_word_fault n w = record { cause = BadWord; place = w.place; line = n }
 
 abbrev pub too_long : ScriptFault
 too_long = record { cause = TooLong; place = 65536; line = 0 }

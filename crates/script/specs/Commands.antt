@@ -2,14 +2,15 @@
 --     Worded              a command with its words
 --     command_of n c ws   the command of the letter c, its words taken off ws, in a line of n bytes; none for another letter
 --     line_command n ws   the same, the letter being the first of the words
---     call_of_words t c   the call that a command makes: its words judged from left to right; else the place of the first bad one
+--     call_of_words t c   the call that a command makes: its words judged from left to right; else the first bad one
 --     line_call t k l     the call that the line l, the k-th, makes; else its refusal
 use Rattle.std.specs.Prelude.{ℕ, cond, List, [], ◌∷◌, length, Some, None, Ok, Err, Option, Result, ◌==◌}
 use Rattle.history.specs.declared.call.Call.{Call}
 use Rattle.history.specs.declared.call.Call.TheVariants.{Open, Read, Close, Begin, Look, Change, Commit, Abandon, Kept}
 use Rattle.script.specs.Card.{unknown_letter_fault, bad_word_fault}
 use Rattle.script.specs.Kinds.{Terms, top, any}
-use Rattle.script.specs.Words.{Part, words, first, rest, judged}
+use Rattle.script.specs.Words.{Part, words, first, rest, bad, judged}
+use Rattle.script.specs.declared.fault.BadWord.{BadWord}
 use Rattle.script.specs.declared.fault.ScriptFault.{ScriptFault}
 
 pub data Worded : Type 0 where
@@ -54,11 +55,11 @@ command_of n c ws =
     (cond (c == 118) (one_taken n w_kept ws) None))))))))
 
 -- what follows from an accepted word
-abbrev pub bind : {X : Type 0} → Result ℕ ℕ → (ℕ → Result X ℕ) → Result X ℕ
+abbrev pub bind : {X : Type 0} → Result ℕ BadWord → (ℕ → Result X BadWord) → Result X BadWord
 bind (Ok n) next = next n
-bind (Err p) next = Err p
+bind (Err w) next = Err w
 
-abbrev pub call_of_words : {Edit : Type 0} → Terms Edit → Worded → Result (Call Edit) ℕ
+abbrev pub call_of_words : {Edit : Type 0} → Terms Edit → Worded → Result (Call Edit) BadWord
 call_of_words t w_open = Ok Open
 call_of_words t (w_read time i) = bind (judged top time) (λ x. bind (judged any i) (λ y. Ok (Read x y)))
 call_of_words t (w_close time) = bind (judged top time) (λ x. Ok (Close x))
@@ -71,10 +72,10 @@ call_of_words t (w_abandon w) = bind (judged top w) (λ x. Ok (Abandon x))
 call_of_words t (w_kept i) = bind (judged any i) (λ y. Ok (Kept y))
 
 -- a word that is left over is bad too, after all others
-abbrev pub ended : {X : Type 0} → ℕ → Result X ℕ → List Part → Result X ScriptFault
-ended k (Err p) ws = Err (bad_word_fault k p)
+abbrev pub ended : {X : Type 0} → ℕ → Result X BadWord → List Part → Result X ScriptFault
+ended k (Err w) ws = Err (bad_word_fault k w)
 ended k (Ok x) [] = Ok x
-ended k (Ok x) (w ∷ ws) = Err (bad_word_fault k w.place)
+ended k (Ok x) (w ∷ ws) = Err (bad_word_fault k (bad w))
 
 abbrev pub asked : {Edit : Type 0} → Terms Edit → ℕ → Option Taken → Result (Call Edit) ScriptFault
 asked t k None = Err (unknown_letter_fault k)

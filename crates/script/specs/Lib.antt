@@ -4,5 +4,6 @@ pub mod Kinds
 pub mod Lines
 pub mod Openings
 pub mod Parts
+pub mod Shown
 pub mod Spans
 pub mod Words

@@ -6,8 +6,10 @@
 --     rest ws             the words behind it
 --     over ws             the place of the next word, if one is left
 --     number_of cs        the number that 1 to 20 digits write, if it is below 2^64
---     judged b w          the number of the word w if it is one and at most b; else the word's place
+--     bad w               the word w, told as a bad one: by its place
+--     judged b w          the number of the word w if it is one and at most b; else a bad word
 use Rattle.std.specs.Prelude.{ℕ, ◌+◌, ◌-◌, ◌*◌, Bool, true, cond, ◌&&◌, List, [], ◌∷◌, length, drop, Some, None, Ok, Err, Option, Result, ◌==◌, nat_le, nat_lt}
+use Rattle.script.specs.declared.fault.BadWord.{BadWord}
 
 pub record Part : Type 0 where
   pub text : List ℕ
@@ -52,10 +54,13 @@ read_on n (c ∷ cs) = read_on (n * 10 + (c - 48)) cs
 unfoldable pub number_of : List ℕ → Option ℕ
 number_of cs = cond (((nat_le 1 (length cs) && nat_le (length cs) 20) && digits cs) && nat_lt (read_on 0 cs) 18446744073709551616) (Some (read_on 0 cs)) None
 
--- at most b
-abbrev pub within : ℕ → ℕ → Option ℕ → Result ℕ ℕ
-within b p None = Err p
-within b p (Some n) = cond (nat_le n b) (Ok n) (Err p)
+abbrev pub bad : Part → BadWord
+bad w = record { place = w.place }
 
-unfoldable pub judged : ℕ → Part → Result ℕ ℕ
-judged b w = within b w.place (number_of w.text)
+-- at most b
+abbrev pub within : ℕ → BadWord → Option ℕ → Result ℕ BadWord
+within b e None = Err e
+within b e (Some n) = cond (nat_le n b) (Ok n) (Err e)
+
+unfoldable pub judged : ℕ → Part → Result ℕ BadWord
+judged b w = within b (bad w) (number_of w.text)

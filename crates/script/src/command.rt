@@ -5,13 +5,13 @@ ghost use Rattle.script.specs.Spans.{part};
 ghost use Rattle.script.specs.Parts.{tell, Commanded};
 ghost use Rattle.script.specs.Words.{words_left, judged};
 
-use crate::fault::ScriptFault;
+use crate::fault::{BadWord, ScriptFault};
 use crate::kinds::ScriptKind;
 use crate::words::{Word, Words, judge};
 use history::call::Call;
 
 // The largest time, number of a writer or fields value.
-const TOP: u64 = 4294967295;
+const TOP: u64 = u32::MAX as u64;
 
 // A command of a script, with its words as they stand in the line.
 #[derive(Clone, Copy)]
@@ -53,76 +53,58 @@ pub fn pick<'a>(letter: u8, words: &mut Words<'a>) -> Option<Command<'a>>
 {
     match char::from(letter) {
         'o' => Some(Command::Open),
-        'r' => {
-            let time = words.next_word();
-            let record = words.next_word();
-            Some(Command::Read { time, record })
-        }
-        'c' => {
-            let time = words.next_word();
-            Some(Command::Close { time })
-        }
+        'r' => Some(Command::Read {
+            time: words.next_word(),
+            record: words.next_word(),
+        }),
+        'c' => Some(Command::Close {
+            time: words.next_word(),
+        }),
         'b' => Some(Command::Begin),
-        'g' => {
-            let writer = words.next_word();
-            let record = words.next_word();
-            Some(Command::Look { writer, record })
-        }
-        'e' => {
-            let writer = words.next_word();
-            let record = words.next_word();
-            let attribute = words.next_word();
-            let value = words.next_word();
-            Some(Command::Change {
-                writer,
-                record,
-                attribute,
-                value,
-            })
-        }
-        'm' => {
-            let writer = words.next_word();
-            Some(Command::Commit { writer })
-        }
-        'a' => {
-            let writer = words.next_word();
-            Some(Command::Abandon { writer })
-        }
-        'v' => {
-            let record = words.next_word();
-            Some(Command::Kept { record })
-        }
+        'g' => Some(Command::Look {
+            writer: words.next_word(),
+            record: words.next_word(),
+        }),
+        'e' => Some(Command::Change {
+            writer: words.next_word(),
+            record: words.next_word(),
+            attribute: words.next_word(),
+            value: words.next_word(),
+        }),
+        'm' => Some(Command::Commit {
+            writer: words.next_word(),
+        }),
+        'a' => Some(Command::Abandon {
+            writer: words.next_word(),
+        }),
+        'v' => Some(Command::Kept {
+            record: words.next_word(),
+        }),
         _ => None,
     }
 }
 
 // A time or a writer's number.
-fn judge_time(word: Word) -> Result<u32, usize>
+fn judge_time(word: Word) -> Result<u32, BadWord>
     ensures { result ≡ judged top (part word.entry) }
 {
-    match judge(word, TOP) {
-        Ok(n) => Ok(n as u32),
-        Err(place) => Err(place),
-    }
+    let n = judge(word, TOP)?;
+    Ok(n as u32)
 }
 
-// The call that a command makes, its words judged from left to right; else the place of the first bad one.
-pub fn call_of<K: ScriptKind>(command: Command) -> Result<Call<K::Edit>, usize>
+// The call that a command makes, its words judged from left to right; else the first bad one.
+pub fn call_of<K: ScriptKind>(command: Command) -> Result<Call<K::Edit>, BadWord>
     ensures { result ≡ call_of_words K.terms (tell command.entry) }
 {
     match command {
         Command::Open => Ok(Call::Open),
         Command::Read { time, record } => {
-            let t = judge_time(time)?;
-            let i = judge(record, u64::MAX)?;
-            Ok(Call::Read(t, i))
+            Ok(Call::Read(judge_time(time)?, judge(record, u64::MAX)?))
         }
         Command::Close { time } => Ok(Call::Close(judge_time(time)?)),
         Command::Begin => Ok(Call::Begin),
         Command::Look { writer, record } => {
-            let w = judge_time(writer)?;
-            let i = judge(record, u64::MAX)?;
-            Ok(Call::Look(w, i))
+            Ok(Call::Look(judge_time(writer)?, judge(record, u64::MAX)?))
         }
         Command::Change {
             writer,
@@ -132,8 +114,8 @@ pub fn call_of<K: ScriptKind>(command: Command) -> Result<Call<K::Edit>, usize>
         } => {
             let w = judge_time(writer)?;
             let i = judge(record, u64::MAX)?;
-            let a = judge(attribute, K::last_attribute())?;
-            let v = judge(value, K::most())?;
+            let a = judge(attribute, K::LAST_ATTRIBUTE)?;
+            let v = judge(value, K::MOST)?;
             Ok(Call::Change(w, i, K::set(a, v)))
         }
         Command::Commit { writer } => Ok(Call::Commit(judge_time(writer)?)),
@@ -146,7 +128,10 @@ pub fn call_of<K: ScriptKind>(command: Command) -> Result<Call<K::Edit>, usize>
 pub(crate) fn letter_of(text: &[u8]) -> Option<u8>
     ensures { result ≡ letter_of_word text.now }
 {
-    if text.len() == 1 { Some(text[0]) } else { None }
+    match text {
+        [letter] => Some(*letter),
+        _ => None,
+    }
 }
 
 // The command of a line, from its first word on; none where that is no known letter.
@@ -155,10 +140,7 @@ pub fn read_command<'a>(words: &mut Words<'a>) -> Option<Command<'a>>
     ensures taken { Commanded (line_command (length words.old.line.now) (words_left words.old.line.now words.old.at)) result (words_left words.new.line.now words.new.at) }
 {
     let word = words.next_word();
-    match letter_of(word.text) {
-        Some(letter) => pick(letter, words),
-        None => None,
-    }
+    pick(letter_of(word.text)?, words)
 }
 
 // The call that a line makes, or its refusal.
@@ -169,11 +151,5 @@ pub fn read_call<K: ScriptKind>(line: &[u8], number: usize) -> Result<Call<K::Ed
     let Some(command) = read_command(&mut words) else {
         return Err(ScriptFault::unknown_letter(number));
     };
-    match call_of::<K>(command) {
-        Err(place) => Err(ScriptFault::bad_word(place, number)),
-        Ok(call) => match words.extra() {
-            Some(place) => Err(ScriptFault::bad_word(place, number)),
-            None => Ok(call),
-        },
-    }
+    words.end(call_of::<K>(command), number)
 }

@@ -13,6 +13,12 @@ pub enum ScriptCause {
     FromStore(StoreFault),
 }
 
+// A word that is missing, empty, extra, malformed or out of range, by its place in its line.
+#[derive(Clone, Copy)]
+pub struct BadWord {
+    pub place: usize,
+}
+
 // A script's refusal, with its place and its line.
 #[derive(Clone, Copy)]
 pub struct ScriptFault {
@@ -33,13 +39,13 @@ impl ScriptFault {
         }
     }
 
-    // A word of a line is missing, empty, extra, malformed or out of range.
-    pub fn bad_word(place: usize, line: usize) -> ScriptFault
-        ensures { result ≡ bad_word_fault line place }
+    // A bad word of a line.
+    pub fn bad_word(word: BadWord, line: usize) -> ScriptFault
+        ensures { result ≡ bad_word_fault line word }
     {
         ScriptFault {
             cause: ScriptCause::BadWord,
-            place: place as u64,
+            place: word.place as u64,
             line,
         }
     }
@@ -70,10 +76,9 @@ impl ScriptFault {
     pub fn number(&self) -> u8
         ensures { result ≡ script_number self.now.cause }
     {
-        match &self.cause {
+        match self.cause {
             ScriptCause::UnknownLetter => 11,
-            ScriptCause::BadWord => 12,
-            ScriptCause::TooLong => 12,
+            ScriptCause::BadWord | ScriptCause::TooLong => 12,
             ScriptCause::FromStore(f) => f.number(),
         }
     }
@@ -82,11 +87,9 @@ impl ScriptFault {
     pub fn layer(&self) -> Layer
         ensures { result ≡ script_layer self.now.cause }
     {
-        match &self.cause {
-            ScriptCause::UnknownLetter => Layer::Script,
-            ScriptCause::BadWord => Layer::Script,
-            ScriptCause::TooLong => Layer::Script,
+        match self.cause {
             ScriptCause::FromStore(f) => f.layer(),
+            _ => Layer::Script,
         }
     }
 }

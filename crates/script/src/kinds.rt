@@ -1,4 +1,4 @@
-ghost use Rattle.std.specs.Prelude.{◌≡◌, length, slice_index};
+ghost use Rattle.std.specs.Prelude.{◌≡◌, ℕ, length, slice_index};
 ghost use Rattle.script.specs.Kinds.{Terms, fields_terms, tallies_terms};
 ghost use Rattle.std.proofs.Common.{rules};
 
@@ -10,25 +10,31 @@ use tallies::{Counts, Tallies};
 pub trait ScriptKind: Kind {
     ghost terms: { Terms Self.Edit };
 
+    ghost LAST_ATTRIBUTE: { ℕ };
+
     // The number of the last attribute.
-    fn last_attribute() -> u64
-        ensures { result ≡ terms.attributes };
+    const LAST_ATTRIBUTE: u64;
+
+    ghost MOST: { ℕ };
 
     // The largest value.
-    fn most() -> u64
-        ensures { result ≡ terms.values };
+    const MOST: u64;
+
+    ghost NUMBERS: { ℕ };
+
+    // How many numbers a row tells.
+    const NUMBERS: usize;
 
     // The edit of one attribute.
     fn set(attribute: u64, value: u64) -> Self::Edit
         ensures { result ≡ terms.set attribute value };
 
-    // How many numbers a row tells.
-    fn numbers() -> usize
-        ensures { result ≡ terms.numbers };
-
-    // A number of those that a row tells.
+    // A number of those that a row tells, or 0 past the last. One by one: a row of any kind cannot be lent as a slice.
     fn number(row: Self::Row, i: usize) -> u64
         ensures { result ≡ slice_index (Self.ops.tells row) i };
+
+    // The constants are those of the terms.
+    ghost constants: { (LAST_ATTRIBUTE ≡ terms.attributes) × ((MOST ≡ terms.values) × (NUMBERS ≡ terms.numbers)) };
 
     // A row tells this many numbers.
     ghost wide: { (r : Self.Row) → length (Self.ops.tells r) ≡ terms.numbers };
@@ -39,13 +45,19 @@ impl ScriptKind for Fields {
 
     ghost wide = { Prim.search rules };
 
-    fn last_attribute() -> u64 {
-        7
-    }
+    ghost LAST_ATTRIBUTE = { 7 };
 
-    fn most() -> u64 {
-        4294967295
-    }
+    const LAST_ATTRIBUTE: u64 = 7;
+
+    ghost MOST = { 4294967295 };
+
+    const MOST: u64 = 4294967295;
+
+    ghost NUMBERS = { 8 };
+
+    const NUMBERS: usize = 8;
+
+    ghost constants = { Prim.search rules };
 
     fn set(attribute: u64, value: u64) -> Patch {
         let mask = if attribute < 8 { 1 << attribute } else { 0 };
@@ -53,10 +65,6 @@ impl ScriptKind for Fields {
             mask,
             values: [(value % 4294967296) as u32; 8],
         }
-    }
-
-    fn numbers() -> usize {
-        8
     }
 
     fn number(row: Attributes, i: usize) -> u64 {
@@ -69,13 +77,19 @@ impl ScriptKind for Tallies {
 
     ghost wide = { Prim.search rules };
 
-    fn last_attribute() -> u64 {
-        3
-    }
+    ghost LAST_ATTRIBUTE = { 3 };
 
-    fn most() -> u64 {
-        18446744073709551615
-    }
+    const LAST_ATTRIBUTE: u64 = 3;
+
+    ghost MOST = { 18446744073709551615 };
+
+    const MOST: u64 = u64::MAX;
+
+    ghost NUMBERS = { 4 };
+
+    const NUMBERS: usize = 4;
+
+    ghost constants = { Prim.search rules };
 
     fn set(attribute: u64, value: u64) -> Counts {
         let mut values = [0; 4];
@@ -83,10 +97,6 @@ impl ScriptKind for Tallies {
             values[attribute as usize] = value;
         }
         Counts { values }
-    }
-
-    fn numbers() -> usize {
-        4
     }
 
     fn number(row: Counts, i: usize) -> u64 {

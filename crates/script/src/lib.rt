@@ -7,4 +7,5 @@ pub mod kinds;
 pub mod number;
 pub mod opening;
 pub mod reader;
+pub mod show;
 pub mod words;

@@ -10,14 +10,11 @@ pub fn number(text: &[u8]) -> Option<u64>
     }
     let mut n: u64 = 0;
     for b in text {
-        if *b < b'0' || *b > b'9' {
+        if !b.is_ascii_digit() {
             return None;
         }
-        let d = (*b - b'0') as u64;
-        if n > (u64::MAX - d) / 10 {
-            return None;
-        }
-        n = n * 10 + d;
+        let digit = (*b - b'0') as u64;
+        n = n.checked_mul(10)?.checked_add(digit)?;
     }
     Some(n)
 }

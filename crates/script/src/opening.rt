@@ -4,7 +4,7 @@ ghost use Rattle.script.specs.Openings.{kind_of, registry_of, sizes_of, opening}
 ghost use Rattle.script.specs.Spans.{part};
 
 use crate::command::letter_of;
-use crate::fault::ScriptFault;
+use crate::fault::{BadWord, ScriptFault};
 use crate::words::{Word, Words, judge};
 
 // The most records and versions of a script's store.
@@ -36,12 +36,13 @@ pub struct Opening {
     pub start: u64,
 }
 
+// A kind and a registry have a table of two letters each: a conversion of each would need an error type, and be no plainer.
 fn kind_letter(text: &[u8]) -> Option<KindLetter>
     ensures { result ≡ kind_of (letter_of_word text.now) }
 {
-    match letter_of(text) {
-        Some(b'F') => Some(KindLetter::F),
-        Some(b'T') => Some(KindLetter::T),
+    match letter_of(text)? {
+        b'F' => Some(KindLetter::F),
+        b'T' => Some(KindLetter::T),
         _ => None,
     }
 }
@@ -49,35 +50,29 @@ fn kind_letter(text: &[u8]) -> Option<KindLetter>
 fn registry_letter(text: &[u8]) -> Option<RegistryLetter>
     ensures { result ≡ registry_of (letter_of_word text.now) }
 {
-    match letter_of(text) {
-        Some(b'S') => Some(RegistryLetter::S),
-        Some(b'L') => Some(RegistryLetter::L),
+    match letter_of(text)? {
+        b'S' => Some(RegistryLetter::S),
+        b'L' => Some(RegistryLetter::L),
         _ => None,
     }
 }
 
-// The four words behind the kind, judged from left to right; else the place of the first bad one.
+// The four words behind the kind, judged from left to right; else the first bad one.
 fn judge_sizes(
     kind: KindLetter,
     registry: Word,
     records: Word,
     versions: Word,
     start: Word,
-) -> Result<Opening, usize>
+) -> Result<Opening, BadWord>
     ensures { result ≡ sizes_of kind (part registry.entry) (part records.entry) (part versions.entry) (part start.entry) }
 {
-    let Some(letter) = registry_letter(registry.text) else {
-        return Err(registry.place);
-    };
-    let n = judge(records, RECORDS)?;
-    let v = judge(versions, VERSIONS)?;
-    let s = judge(start, u64::MAX)?;
     Ok(Opening {
         kind,
-        registry: letter,
-        records: n,
-        versions: v,
-        start: s,
+        registry: registry_letter(registry.text).ok_or(registry.bad())?,
+        records: judge(records, RECORDS)?,
+        versions: judge(versions, VERSIONS)?,
+        start: judge(start, u64::MAX)?,
     })
 }
 
@@ -94,11 +89,5 @@ pub fn read_opening(line: &[u8]) -> Result<Opening, ScriptFault>
     let records = words.next_word();
     let versions = words.next_word();
     let start = words.next_word();
-    match judge_sizes(kind, registry, records, versions, start) {
-        Err(place) => Err(ScriptFault::bad_word(place, 1)),
-        Ok(opening) => match words.extra() {
-            Some(place) => Err(ScriptFault::bad_word(place, 1)),
-            None => Ok(opening),
-        },
-    }
+    words.end(judge_sizes(kind, registry, records, versions, start), 1)
 }

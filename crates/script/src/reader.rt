@@ -1,18 +1,16 @@
-ghost use Rattle.std.specs.Prelude.{◌≡◌, ℕ, ◌+◌, ◌<◌, ◌≤◌, List, [], ◌∷◌, length, MatchOption, ◌≢◌, slice_index};
+ghost use Rattle.std.specs.Prelude.{◌≡◌, ℕ, ◌+◌, ◌<◌, ◌≤◌, List, [], ◌∷◌, length, MatchOption, ◌≢◌, slice_index, take};
 ghost use Rattle.script.specs.Lines.{lines_left};
 
-// The index of the first byte b, or the length where there is none.
-pub(crate) fn find(bytes: &[u8], b: u8) -> usize
-    ensures within { result ≤ length bytes.now }
-    ensures before { (k : ℕ) → k < result → slice_index bytes.now k ≢ b }
-    ensures found { result < length bytes.now → slice_index bytes.now result ≡ b }
+// The bytes before the first b, or all where there is none.
+pub(crate) fn before(bytes: &[u8], b: u8) -> &[u8]
+    ensures front { result.now ≡ take (length result.now) bytes.now }
+    ensures lacks { (k : ℕ) → k < length result.now → slice_index result.now k ≢ b }
+    ensures stops { length result.now < length bytes.now → slice_index bytes.now (length result.now) ≡ b }
 {
-    for (i, x) in bytes.iter().enumerate() {
-        if *x == b {
-            return i;
-        }
+    match bytes.iter().position(|x| *x == b) {
+        Some(n) => &bytes[..n],
+        None => bytes,
     }
-    bytes.len()
 }
 
 // Stands over a script, and counts its lines from 1: `line` is the number of the line read last.
@@ -53,13 +51,9 @@ impl<'a> Reader<'a> {
             return None;
         }
         let rest = &self.bytes[self.at..];
-        let n = find(rest, b'\n');
-        let line = &rest[0..n];
+        let line = before(rest, b'\n');
         self.line += 1;
-        self.at += n;
-        if n < rest.len() {
-            self.at += 1;
-        }
+        self.at = (self.at + line.len() + 1).min(self.bytes.len());
         Some(line)
     }
 }

@@ -1,10 +1,11 @@
 ghost use Rattle.std.specs.Prelude.{◌≡◌, ℕ, ◌+◌, ◌≤◌, length};
-ghost use Rattle.script.specs.Words.{words_left, first, rest, judged};
-ghost use Rattle.script.specs.Words.{over};
+ghost use Rattle.script.specs.Commands.{ended};
+ghost use Rattle.script.specs.Words.{words_left, first, rest, over, bad, judged};
 ghost use Rattle.script.specs.Spans.{part};
 
+use crate::fault::{BadWord, ScriptFault};
 use crate::number::number;
-use crate::reader::find;
+use crate::reader::before;
 
 // A word of a line, and the place of its first byte in it.
 #[derive(Clone, Copy)]
@@ -13,7 +14,16 @@ pub struct Word<'a> {
     pub place: usize,
 }
 
-// The words of a line, one after the other.
+impl Word<'_> {
+    // This word, told as a bad one.
+    pub fn bad(&self) -> BadWord
+        ensures { result ≡ bad (part self.now) }
+    {
+        BadWord { place: self.place }
+    }
+}
+
+// The words of a line, one after the other; behind the last word, `at` stands one past the line's end.
 #[derive(Drop)]
 pub struct Words<'a> {
     line: &'a [u8],
@@ -36,20 +46,15 @@ impl<'a> Words<'a> {
         ensures left { words_left self.new.line.now self.new.at ≡ rest (words_left self.old.line.now self.old.at) }
     {
         let place = self.at;
-        let end = self.line.len();
-        if place > end {
+        let Some(rest) = self.line.get(place..) else {
             return Word {
-                text: &self.line[end..],
-                place: end,
+                text: &[],
+                place: self.line.len(),
             };
-        }
-        let rest = &self.line[place..];
-        let n = find(rest, b' ');
-        self.at = place + n + 1;
-        Word {
-            text: &rest[0..n],
-            place,
-        }
+        };
+        let text = before(rest, b' ');
+        self.at = place + text.len() + 1;
+        Word { text, place }
     }
 
     // The place of the next word, if one is left.
@@ -62,19 +67,22 @@ impl<'a> Words<'a> {
             None
         }
     }
+
+    // What a line's words gave, unless one of them is bad; a word that is left over is bad too, after all others.
+    pub fn end<X: Copy>(&self, given: Result<X, BadWord>, line: usize) -> Result<X, ScriptFault>
+        ensures { result ≡ ended line given (words_left self.now.line.now self.now.at) }
+    {
+        let x = given.map_err(|word| ScriptFault::bad_word(word, line))?;
+        match self.extra() {
+            Some(place) => Err(ScriptFault::bad_word(BadWord { place }, line)),
+            None => Ok(x),
+        }
+    }
 }
 
-// The number of a word, if it is one and at most `most`; else the word's place.
-pub fn judge(word: Word, most: u64) -> Result<u64, usize>
+// The number of a word, if it is one and at most `most`.
+pub fn judge(word: Word, most: u64) -> Result<u64, BadWord>
     ensures { result ≡ judged most (part word.entry) }
 {
-    match number(word.text) {
-        Some(n) => {
-            if n <= most {
-                return Ok(n);
-            }
-            Err(word.place)
-        }
-        None => Err(word.place),
-    }
+    number(word.text).filter(|n| *n <= most).ok_or(word.bad())
 }

@@ -1,10 +1,11 @@
 // Compares what scripts print with what they must.
 use std::alloc::{AllocError, Global};
+use std::fmt::Write;
 use std::process::Abort;
 use std::test::Fail;
 use transcript::whole::transcript;
 
-// A whole script.
+// A whole script. The heap comes beside `rt`: what may stop a test has no allocator.
 pub(crate) fn prints(
     rt: &impl Abort,
     heap: Global,
@@ -20,23 +21,18 @@ pub(crate) fn prints(
     }
 }
 
-fn put_line(text: &mut String, line: &str) -> Result<(), AllocError> {
-    text.push_str(line)?;
-    text.push_str("\n")
-}
-
 // One line of a table: a line of the script, a mark, and what it prints. With no mark it prints nothing; a line that
 // begins with the mark is printed and stands for no line of the script.
 fn put_row(script: &mut String, wanted: &mut String, row: &str) -> Result<(), AllocError> {
     if let Some(printed) = row.strip_prefix("> ") {
-        return put_line(wanted, printed);
+        return writeln!(wanted, "{printed}");
     }
     match row.split_once(" > ") {
         Some((line, printed)) => {
-            put_line(script, line)?;
-            put_line(wanted, printed)
+            writeln!(script, "{line}")?;
+            writeln!(wanted, "{printed}")
         }
-        None => put_line(script, row),
+        None => writeln!(script, "{row}"),
     }
 }
 
@@ -56,7 +52,7 @@ pub(crate) fn refused_first(rt: &impl Abort, heap: Global, rows: &str) -> Result
         let mut script = String::new(heap);
         let mut wanted = String::new(heap);
         put_row(&mut script, &mut wanted, row)?;
-        put_line(&mut script, "b")?;
+        writeln!(script, "b")?;
         prints(rt, heap, script.as_bytes(), wanted.as_str())?;
     }
     Ok(())
@@ -72,7 +68,7 @@ pub(crate) fn full(
 ) -> Result<(), Fail> {
     let mut script = String::new(heap);
     let mut wanted = String::new(heap);
-    put_line(&mut script, first)?;
+    writeln!(script, "{first}")?;
     for _ in 0..capacity {
         put_row(&mut script, &mut wanted, "o > report 0")?;
     }

@@ -4,7 +4,7 @@ ghost use Rattle.store.specs.View.{view};
 ghost use Rattle.transcript.specs.Printing.{print_line, print_lines, Behind, left};
 
 use crate::fault::NoMemory;
-use crate::text::{put_end, put_fault, put_outcome};
+use crate::text::Told;
 use lease::registry::Registry;
 use run::perform::perform;
 use run::turn::wrote;
@@ -12,7 +12,7 @@ use script::command::read_call;
 use script::kinds::ScriptKind;
 use script::reader::Reader;
 use std::alloc::Global;
-use std::fmt;
+use std::fmt::Write;
 use store::sizes::Sizes;
 use store::store::Store;
 
@@ -26,16 +26,20 @@ fn run_line<K: ScriptKind, R: Registry>(
     line: &[u8],
     number: usize,
     out: &mut String,
-) -> fmt::Result
+) -> Result<(), NoMemory>
     ensures { OnOk result (Behind (print_line K.ops K.terms R.capacity number (view store.old) (R.leases registry.old) line.now) (string_bytes out.old) (string_bytes out.new) (view store.new) (R.leases registry.new)) }
 {
     match read_call::<K>(line, number) {
-        Err(fault) => put_fault(out, fault),
+        Err(fault) => Ok(writeln!(out, "{fault}")?),
         Ok(call) => {
             let mut list = [0; ROOM];
             let outcome = perform::<K, R>(store, registry, call, &mut list);
-            let n = wrote(outcome);
-            put_outcome::<K>(out, outcome, &list[0..n], number)
+            let told = Told::<K> {
+                outcome,
+                times: &list[..wrote(outcome)],
+                line: number,
+            };
+            Ok(write!(out, "{told}")?)
         }
     }
 }
@@ -55,6 +59,7 @@ pub fn run_lines<K: ScriptKind, R: Registry + Drop>(
         let number = reader.line();
         run_line::<K, R>(&mut store, &mut registry, line, number, out)?;
     }
-    put_end(out, store.in_use(), registry.total())?;
-    Ok(())
+    let used = store.in_use();
+    let leases = registry.total();
+    Ok(writeln!(out, "end {used} {leases}")?)
 }

@@ -1,99 +1,68 @@
-ghost use Rattle.std.specs.Prelude.{◌≡◌, List, [], ◌∷◌, ◌++◌, string_bytes, codes, decimal, OnOk};
-ghost use Rattle.transcript.specs.Texts.{spaced, fault_line, outcome_line, end_text};
+// What is printed of a call's outcome, and of the numbers in it.
+ghost use Rattle.std.specs.Prelude.{Some};
+ghost use Rattle.transcript.specs.Texts.{spaced, outcome_line};
 
 use history::call::Outcome;
 use script::fault::ScriptFault;
 use script::kinds::ScriptKind;
 use std::fmt;
-use std::fmt::Write;
 
-// A text as it stands.
-fn put(out: &mut String, text: &str) -> fmt::Result
-    ensures { OnOk result (string_bytes out.new ≡ string_bytes out.old ++ text.now) }
-{
-    out.write_str(text)
-}
+// Times, each behind a space.
+#[derive(Drop)]
+struct Times<'a>(&'a [u32]);
 
-// Each number behind a space.
-fn put_numbers(out: &mut String, numbers: &[u32]) -> fmt::Result
-    ensures { OnOk result (string_bytes out.new ≡ string_bytes out.old ++ spaced numbers.now) }
-{
-    for n in numbers {
-        let n = *n;
-        write!(out, " {n}")?;
+impl fmt::Display for Times<'_> {
+    ghost output = { λ t. Some (spaced t.0.now) };
+
+    fn fmt<W: fmt::Write>(&self, f: &mut fmt::Formatter<W>) -> fmt::Result {
+        for n in self.0 {
+            write!(f, " {n}")?;
+        }
+        Ok(())
     }
-    Ok(())
 }
 
 // The numbers that a row tells, each behind a space.
-fn put_row<K: ScriptKind>(out: &mut String, row: K::Row) -> fmt::Result
-    ensures { OnOk result (string_bytes out.new ≡ string_bytes out.old ++ spaced (K.ops.tells row)) }
-{
-    for i in 0..K::numbers() {
-        let n = K::number(row, i);
-        write!(out, " {n}")?;
+#[derive(Drop)]
+struct Numbers<K: ScriptKind>(K::Row);
+
+impl<K: ScriptKind> fmt::Display for Numbers<K> {
+    ghost output = { λ r. Some (spaced (K.ops.tells r.0)) };
+
+    fn fmt<W: fmt::Write>(&self, f: &mut fmt::Formatter<W>) -> fmt::Result {
+        // By index: a row is a type parameter, and such a row cannot be lent as a slice of numbers.
+        for i in 0..K::NUMBERS {
+            let n = K::number(self.0, i);
+            write!(f, " {n}")?;
+        }
+        Ok(())
     }
-    Ok(())
 }
 
-// A script's refusal.
-pub fn put_fault(out: &mut String, fault: ScriptFault) -> fmt::Result
-    ensures { OnOk result (string_bytes out.new ≡ string_bytes out.old ++ fault_line fault) }
-{
-    let number = fault.number();
-    let layer = fault.layer();
-    let place = fault.place;
-    let line = fault.line;
-    Ok(write!(out, "refused {number} {layer} {place} at {line}\n")?)
+// What came of a call at a line, with the times that the call wrote.
+#[derive(Drop)]
+pub struct Told<'a, K: ScriptKind> {
+    pub outcome: Outcome<K::Row>,
+    pub times: &'a [u32],
+    pub line: usize,
 }
 
-// The last line.
-pub fn put_end(out: &mut String, used: usize, leases: u32) -> fmt::Result
-    ensures { OnOk result (string_bytes out.new ≡ string_bytes out.old ++ end_text used leases) }
-{
-    Ok(write!(out, "end {used} {leases}\n")?)
-}
+impl<K: ScriptKind> fmt::Display for Told<'_, K> {
+    ghost output = { λ t. Some (outcome_line K.ops.tells t.line t.times.now t.outcome) };
 
-// A row that is shown.
-fn put_shown<K: ScriptKind>(out: &mut String, row: K::Row) -> fmt::Result
-    ensures { OnOk result (string_bytes out.new ≡ string_bytes out.old ++ (codes "row" ++ (spaced (K.ops.tells row) ++ codes "\n"))) }
-{
-    put(out, "row")?;
-    put_row::<K>(out, row)?;
-    put(out, "\n")?;
-    Ok(())
-}
-
-// The number of versions kept, and their times.
-fn put_kept(out: &mut String, count: usize, times: &[u32]) -> fmt::Result
-    ensures { OnOk result (string_bytes out.new ≡ string_bytes out.old ++ (codes "kept " ++ (decimal count ++ (spaced times.now ++ codes "\n")))) }
-{
-    write!(out, "kept {count}")?;
-    put_numbers(out, times)?;
-    put(out, "\n")?;
-    Ok(())
-}
-
-// What came of a call at a line; `times` are those that the call wrote.
-pub fn put_outcome<K: ScriptKind>(
-    out: &mut String,
-    outcome: Outcome<K::Row>,
-    times: &[u32],
-    line: usize,
-) -> fmt::Result
-    ensures { OnOk result (string_bytes out.new ≡ string_bytes out.old ++ outcome_line K.ops.tells line times.now outcome) }
-{
-    match outcome {
-        Outcome::Opened(time) => Ok(write!(out, "report {time}\n")?),
-        Outcome::Shown(row) => put_shown::<K>(out, row),
-        Outcome::Closed => put(out, "closed\n"),
-        Outcome::Began(number) => Ok(write!(out, "writer {number}\n")?),
-        Outcome::Changed => put(out, "changed\n"),
-        Outcome::Committed(clock, count) => Ok(write!(out, "committed {clock} {count}\n")?),
-        Outcome::Abandoned(count) => Ok(write!(out, "abandoned {count}\n")?),
-        Outcome::Held(_) => Ok(()),
-        Outcome::Kept(count) => put_kept(out, count, times),
-        Outcome::InUse(_) => Ok(()),
-        Outcome::Refused(fault) => Ok(write!(out, "refused {fault} at {line}\n")?),
+    fn fmt<W: fmt::Write>(&self, f: &mut fmt::Formatter<W>) -> fmt::Result {
+        match self.outcome {
+            Outcome::Opened(time) => writeln!(f, "report {time}"),
+            Outcome::Shown(row) => writeln!(f, "row{}", Numbers::<K>(row)),
+            Outcome::Closed => writeln!(f, "closed"),
+            Outcome::Began(number) => writeln!(f, "writer {number}"),
+            Outcome::Changed => writeln!(f, "changed"),
+            Outcome::Committed(clock, count) => writeln!(f, "committed {clock} {count}"),
+            Outcome::Abandoned(count) => writeln!(f, "abandoned {count}"),
+            Outcome::Kept(count) => writeln!(f, "kept {count}{}", Times(self.times)),
+            Outcome::Refused(fault) => writeln!(f, "{}", ScriptFault::from_store(fault, self.line)),
+            // A script makes no call with such an outcome.
+            Outcome::Held(_) | Outcome::InUse(_) => Ok(()),
+        }
     }
 }

@@ -1,11 +1,11 @@
 ghost use Rattle.std.specs.Prelude.{◌≡◌, ◌+◌, List, [], ◌++◌, IfOk, string_bytes, OnOk};
 ghost use Rattle.script.specs.Openings.{opening};
 ghost use Rattle.transcript.specs.Printing.{left};
+ghost use Rattle.transcript.specs.Texts.{fault_line};
 ghost use Rattle.transcript.specs.Transcripts.{Transcript, Begun, print_by};
 
 use crate::fault::NoMemory;
 use crate::lines::run_lines;
-use crate::text::put_fault;
 use fields::Fields;
 use script::fault::ScriptFault;
 use script::opening::{KindLetter, Opening, RegistryLetter, read_opening};
@@ -45,26 +45,27 @@ fn run_opened(
     }
 }
 
+// All that is printed of a script that is refused before its second line.
+fn refusal(heap: Global, fault: ScriptFault) -> Result<String, NoMemory>
+    ensures { IfOk result (λ text. string_bytes text ≡ fault_line fault) }
+{
+    Ok(format!(in heap; "{fault}\n")?)
+}
+
 // Reads the first line and runs the others, or prints why the run ends there.
 fn begin(heap: Global, first: &[u8], reader: &mut Reader) -> Result<String, NoMemory>
     requires { reader.old.line ≡ 1 }
     ensures { IfOk result (λ text. Begun (opening first.now) (left reader.old) (string_bytes text)) }
 {
-    let mut out = String::new(heap);
     let opening = match read_opening(first) {
         Ok(opening) => opening,
-        Err(fault) => {
-            put_fault(&mut out, fault)?;
-            return Ok(out);
-        }
+        Err(fault) => return refusal(heap, fault),
     };
     let sizes = match Sizes::check(opening.records, opening.versions, opening.start) {
         Ok(sizes) => sizes,
-        Err(fault) => {
-            put_fault(&mut out, ScriptFault::from_store(fault, 1))?;
-            return Ok(out);
-        }
+        Err(fault) => return refusal(heap, ScriptFault::from_store(fault, 1)),
     };
+    let mut out = String::new(heap);
     run_opened(heap, opening, sizes, reader, &mut out)?;
     Ok(out)
 }
@@ -74,9 +75,7 @@ pub fn transcript(heap: Global, script: &[u8]) -> Result<String, NoMemory>
     ensures { IfOk result (λ text. Transcript script.now (string_bytes text)) }
 {
     if script.len() > LONGEST {
-        let mut out = String::new(heap);
-        put_fault(&mut out, ScriptFault::too_long())?;
-        return Ok(out);
+        return refusal(heap, ScriptFault::too_long());
     }
     let mut reader = Reader::new(script);
     match reader.next_line() {

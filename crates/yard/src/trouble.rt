@@ -8,6 +8,7 @@ pub enum Trouble {
     NoMemory,
 }
 
+// Both conversions by hand: a derived one keeps what it is given, and want of memory would print as another text.
 impl From<io::Error> for Trouble {
     fn from(error: io::Error) -> Trouble {
         Trouble::Io(error)

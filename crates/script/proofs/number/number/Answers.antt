@@ -1,44 +1,36 @@
-use Rattle.std.proofs.Common.{◌+◌, ◌-◌, ◌*◌, ◌<◌, ◌≤◌, length, get_or, drop, Some, sym, ap, ◌∙◌, ⊎_elim, arith}
+use Rattle.std.proofs.Common.{◌+◌, ◌<◌, ◌≤◌, length, get_or, drop, Some, sym, ap, ◌∙◌, ⊎_elim, arith}
 use Rattle.std.proofs.lemmas.Bool.{eqb-false, eqb-true}
 use Rattle.std.proofs.lemmas.List.{at_drop_more, at_drop_all}
 use Rattle.script.specs.Words.{read_on, digits}
-use Rattle.script.proofs.Cuts.{read_on_ge, number_none, number_long, number_bad, number_big, number_good, digits_low, digits_high, digits_on}
+use Rattle.script.proofs.Cuts.{number_none, number_long, number_bad, number_over, number_good, digits_off}
 use Rattle.script.proofs.number.number.Goals as goal
-use Rattle.script.proofs.number.number.Goals.{then-b-lt48-via-then-b-lt48, then-b-lt48-via-else-b-lt48+then-b-gt57}
 
 pub returns-then-is_empty : goal.returns-then-is_empty
 returns-then-is_empty c =
     let xs = c.args.text.now in
     ⊎_elim (λ e. number_none xs (eqb-true (length xs) 0 (sym c.is_empty.ensures ∙ e))) (λ p. number_long xs (omega (arith, p.1))) c.then-is_empty.either
 
-pub returns-then-b-lt48 : goal.returns-then-b-lt48
-returns-then-b-lt48 c =
+pub returns-then-not-is_ascii_digit : goal.returns-then-not-is_ascii_digit
+returns-then-not-is_ascii_digit c =
     let xs = c.args.text.now in
     let i = c.loop-b.b-index in
-    let ys = drop (i + 1) xs in
     let e = sym c.loop-b.invariant.1 ∙ at_drop_more digits xs i 0 c.loop-b-test.true in
-    number_bad xs (elim c.then-b-lt48.branch [
-      | then-b-lt48-via-then-b-lt48 w ↦ e ∙ digits_low (get_or xs i 0) ys w.if-b-lt48.true
-      | then-b-lt48-via-else-b-lt48+then-b-gt57 w ↦ e ∙ digits_high (get_or xs i 0) ys w.if-b-gt57.true
-    ])
+    number_bad xs (e ∙ digits_off (get_or xs i 0) (drop (i + 1) xs) c.if-not-is_ascii_digit.ensures.cases)
 
-pub returns-then-n-d : goal.returns-then-n-d
-returns-then-n-d c =
+pub returns-in_err-checked_mul : goal.returns-in_err-checked_mul
+returns-in_err-checked_mul c =
     let xs = c.args.text.now in
     let i = c.loop-b.b-index in
-    let e = at_drop_more (read_on c.loop-b.n) xs i 0 c.loop-b-test.true in
-    let g = read_on_ge (c.loop-b.n * 10 + (get_or xs i 0 - 48)) (drop (i + 1) xs) in
-    number_big xs (omega (arith, e, g, c.loop-b.invariant.0, c.if-n-d.true))
+    c.from_residual.ensures
+    ∙ number_over xs (drop (i + 1) xs) c.loop-b.n (get_or xs i 0) (sym (at_drop_more (read_on c.loop-b.n) xs i 0 c.loop-b-test.true) ∙ c.loop-b.invariant.0) (λ h. c.in_err-checked_mul.ensures (omega arith))
 
-pub loop-b-preserved : goal.loop-b-preserved
-loop-b-preserved c =
+pub returns-in_err-n : goal.returns-in_err-n
+returns-in_err-n c =
     let xs = c.args.text.now in
     let i = c.loop-b.b-index in
-    let h = c.loop-b-test.true in (
-      sym (at_drop_more (read_on c.loop-b.n) xs i 0 h) ∙ c.loop-b.invariant.0,
-      sym (at_drop_more digits xs i 0 h ∙ digits_on (get_or xs i 0) (drop (i + 1) xs) c.if-b-lt48.false c.if-b-gt57.false) ∙ c.loop-b.invariant.1,
-      omega arith,
-    )
+    let m = c.in_ok-checked_mul.ensures in
+    c.from_residual-in_err-n.ensures
+    ∙ number_over xs (drop (i + 1) xs) c.loop-b.n (get_or xs i 0) (sym (at_drop_more (read_on c.loop-b.n) xs i 0 c.loop-b-test.true) ∙ c.loop-b.invariant.0) (λ h. c.in_err-n.ensures (omega (arith, m.1)))
 
 pub returns : goal.returns
 returns c =

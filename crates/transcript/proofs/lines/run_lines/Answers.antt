@@ -33,8 +33,8 @@ returns g c =
     let n = g.R.Registry.capacity in
     lines_end k t n (r.line + 1)
     (view c.loop-line.store) (view c.loop-line.store) (g.R.Registry.leases c.loop-line.registry) (g.R.Registry.leases c.loop-line.registry)
-    (string_bytes c.loop-line.out) (string_bytes c.put_end.new.out) _
-    (left r) c.in_use.result c.total.result (no_line r c.in_default.ensures.lines) c.in_use.ensures c.total.ensures c.in_ok-put_end.ensures
+    (string_bytes c.loop-line.out) (string_bytes c.writeln.new.self) _
+    (left r) c.in_use-used.result c.total-leases.result (no_line r c.in_default.ensures.lines) c.in_use-used.ensures c.total-leases.ensures c.in_ok-writeln.ensures.bytes
     (c.loop-line.invariant
     ∙ ap (λ m. string_bytes c.args.out.now ++ print_lines k t n (from.line + 1) m (g.R.Registry.leases c.empty-registry.result) (left from)) new
     ∙ ap (λ ls. string_bytes c.args.out.now ++ print_lines k t n (from.line + 1) (new_model k c.args.sizes.records c.args.sizes.versions c.args.sizes.start) ls (left from)) none)
