@@ -63,7 +63,7 @@ impl<Use> Token<Use> {
     }
 }
 
-impl Token<Writing> {
+impl Writer {
     // The writer's number, without spending it.
     pub fn number(&self) -> u32
         ensures { result ≡ self.now.time }
