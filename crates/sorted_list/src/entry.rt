@@ -1,10 +1,10 @@
-// Entries, and passes over them that leave them alone.
+// Entries in rising order, and the questions over them.
 ghost use Rattle.std.specs.Prelude.{◌≡◌, ◌≤◌, true};
 ghost use Rattle.lease.specs.Times.{count, least};
-ghost use Rattle.sorted_list.specs.Entries.{times, size, rising, list_capacity, Placed};
+ghost use Rattle.sorted_list.specs.Entries.{times, size, rising, list_capacity, Searched};
 
 // A time with its number of leases.
-#[derive(Clone, Copy)]
+#[derive(Clone, Copy, Default)]
 pub struct Entry {
     pub time: u32,
     pub count: u32,
@@ -15,23 +15,15 @@ pub fn sum(entries: &[Entry]) -> u32
     requires { size entries.now ≤ list_capacity }
     ensures { result ≡ size entries.now }
 {
-    let mut n = 0;
-    for e in entries {
-        n += e.count;
-    }
-    n
+    entries.iter().map(|e| e.count).sum()
 }
 
-// Where the entry of a time stands, or none when no entry has it.
-pub fn place_of(entries: &[Entry], time: u32) -> Option<usize>
-    ensures { Placed time entries.now result }
+// Where the entry of a time stands, or where it would go.
+pub fn place_of(entries: &[Entry], time: u32) -> Result<usize, usize>
+    requires { rising entries.now ≡ true }
+    ensures { Searched time entries.now result }
 {
-    for (i, e) in entries.iter().enumerate() {
-        if e.time == time {
-            return Some(i);
-        }
-    }
-    None
+    entries.binary_search_by_key(&time, |e| e.time)
 }
 
 // How many leases are open at a time.
@@ -39,12 +31,10 @@ pub fn count_in(entries: &[Entry], time: u32) -> u32
     requires { rising entries.now ≡ true }
     ensures { result ≡ count time (times entries.now) }
 {
-    for e in entries {
-        if e.time == time {
-            return e.count;
-        }
+    match place_of(entries, time) {
+        Ok(i) => entries[i].count,
+        Err(_) => 0,
     }
-    0
 }
 
 // The first time at or above a time, which is the least, or none.
@@ -52,10 +42,6 @@ pub fn first_from(entries: &[Entry], time: u32) -> Option<u32>
     requires { rising entries.now ≡ true }
     ensures { result ≡ least time (times entries.now) }
 {
-    for e in entries {
-        if time <= e.time {
-            return Some(e.time);
-        }
-    }
-    None
+    let i = entries.partition_point(|e| e.time < time);
+    entries.get(i).map(|e| e.time)
 }

@@ -1,32 +1,11 @@
-use Rattle.std.proofs.Common.{◌+◌, get_or, drop, sym, ◌∙◌}
-use Rattle.std.proofs.lemmas.List.{at_drop_more, at_drop_all}
-use Rattle.lease.specs.Times.{count}
-use Rattle.sorted_list.specs.Entries.{times, rising, no_entry}
-use Rattle.sorted_list.proofs.Meaning.{rising_tail, count_hit, count_skip}
+use Rattle.std.proofs.Common.{sym}
+use Rattle.sorted_list.proofs.Meaning.{count_at, count_gap}
 use Rattle.sorted_list.proofs.entry.count_in.Goals as goal
 
-pub returns-then-e-time : goal.returns-then-e-time
-returns-then-e-time c =
-    let es = c.args.entries.now in
-    let i = c.loop-e.e-index in
-    let h = c.loop-e-test.true in
-    let d = no_entry in
-    let r = sym (at_drop_more rising es i d h) ∙ c.loop-e.invariant.1 in
-    sym (count_hit c.args.time (get_or es i d) (drop (i + 1) es) c.if-e-time.true r)
-    ∙ sym (at_drop_more (λ ys. count c.args.time (times ys)) es i d h) ∙ c.loop-e.invariant.0
+pub returns-in-Ok : goal.returns-in-Ok
+returns-in-Ok c =
+    let f = c.in-Ok.ensures in
+    sym (count_at c.args.entries.now c.in-Ok.i c.args.time f.0 f.1 c.requires)
 
-pub loop-e-preserved : goal.loop-e-preserved
-loop-e-preserved c =
-    let es = c.args.entries.now in
-    let i = c.loop-e.e-index in
-    let h = c.loop-e-test.true in
-    let d = no_entry in
-    let r = sym (at_drop_more rising es i d h) ∙ c.loop-e.invariant.1 in (
-      sym (count_skip c.args.time (get_or es i d) (drop (i + 1) es) c.if-e-time.false)
-          ∙ sym (at_drop_more (λ ys. count c.args.time (times ys)) es i d h) ∙ c.loop-e.invariant.0,
-      rising_tail (get_or es i d) (drop (i + 1) es) r,
-    )
-
-pub returns : goal.returns
-returns c =
-    sym (at_drop_all (λ ys. count c.args.time (times ys)) c.args.entries.now c.loop-e.e-index c.loop-e-test.false) ∙ c.loop-e.invariant.0
+pub returns-in-Err : goal.returns-in-Err
+returns-in-Err c = sym (count_gap c.args.time c.args.entries.now _ c.in-Err.ensures)

@@ -1,32 +1,19 @@
-use Rattle.std.proofs.Common.{◌+◌, get_or, drop, sym, ◌∙◌, arith}
-use Rattle.std.proofs.lemmas.List.{at_drop_more, at_drop_all}
-use Rattle.lease.specs.Times.{least}
-use Rattle.sorted_list.specs.Entries.{times, rising, no_entry}
-use Rattle.sorted_list.proofs.Meaning.{rising_tail, least_hit, least_skip}
+use Rattle.std.proofs.Common.{◌≡◌, ℕ, cond, ltb, length, get_or, Some, None, Option, rules, arith, ◌∙◌}
+use Rattle.std.proofs.lemmas.Bool.Decides.{nat_tests}
+use Rattle.std.proofs.lemmas.List.Sorted.{IsPartitionPoint-from_clause, IsPartitionedBy-ltb}
+use Rattle.sorted_list.specs.declared.entry.Entry.{Entry}
+use Rattle.sorted_list.specs.Entries.{no_entry}
+use Rattle.sorted_list.proofs.Meaning.{least_at}
+use Rattle.sorted_list.proofs.Searching.{non_decreasing}
 use Rattle.sorted_list.proofs.entry.first_from.Goals as goal
-
-pub returns-then-time-e : goal.returns-then-time-e
-returns-then-time-e c =
-    let es = c.args.entries.now in
-    let i = c.loop-e.e-index in
-    let h = c.loop-e-test.true in
-    let d = no_entry in
-    let r = sym (at_drop_more rising es i d h) ∙ c.loop-e.invariant.1 in
-    sym (least_hit c.args.time (get_or es i d) (drop (i + 1) es) (omega (arith, c.if-time-e.true)) r)
-    ∙ sym (at_drop_more (λ ys. least c.args.time (times ys)) es i d h) ∙ c.loop-e.invariant.0
-
-pub loop-e-preserved : goal.loop-e-preserved
-loop-e-preserved c =
-    let es = c.args.entries.now in
-    let i = c.loop-e.e-index in
-    let h = c.loop-e-test.true in
-    let d = no_entry in
-    let r = sym (at_drop_more rising es i d h) ∙ c.loop-e.invariant.1 in (
-      sym (least_skip c.args.time (get_or es i d).count (get_or es i d).time (times (drop (i + 1) es)) c.if-time-e.false)
-          ∙ sym (at_drop_more (λ ys. least c.args.time (times ys)) es i d h) ∙ c.loop-e.invariant.0,
-      rising_tail (get_or es i d) (drop (i + 1) es) r,
-    )
 
 pub returns : goal.returns
 returns c =
-    sym (at_drop_all (λ ys. least c.args.time (times ys)) c.args.entries.now c.loop-e.e-index c.loop-e-test.false) ∙ c.loop-e.invariant.0
+    let t = c.args.time in
+    let es = c.args.entries.now in
+    let i = c.partition_point-i.result in
+    let facts = c.partition_point-i.ensures in
+    let parted = IsPartitionedBy-ltb (λ (e : Entry). e.time) es t (non_decreasing es c.requires) in
+    let point = IsPartitionPoint-from_clause (λ (e : Entry). ltb e.time t) es i facts.partitioned parted (λ a r q k. search rules) in
+    let there : c.map.result ≡ cond (ltb i (length es)) (Some (get_or es i no_entry).time) None = search rules in
+    there ∙ least_at t es i facts.bound (λ j lt. let b = point.0 j no_entry (omega arith) lt in grind (arith, nat_tests)) (λ j le lt. let b = point.1 j no_entry le lt in grind (arith, nat_tests)) c.requires

@@ -1,13 +1,10 @@
-use Rattle.std.proofs.Common.{sym, ◌∙◌}
-use Rattle.std.proofs.lemmas.List.{at_drop_all}
-use Rattle.sorted_list.specs.Entries.{absent, no_entry}
-use Rattle.sorted_list.proofs.Meaning.{absent_more}
+use Rattle.std.proofs.Common.{rules}
+use Rattle.std.proofs.lemmas.List.Sorted.{answers_always}
+use Rattle.sorted_list.specs.declared.entry.Entry.{Entry}
+use Rattle.sorted_list.proofs.Searching.{searched}
 use Rattle.sorted_list.proofs.entry.place_of.Goals as goal
-
-pub loop-i-preserved : goal.loop-i-preserved
-loop-i-preserved c =
-    sym (absent_more c.args.time c.args.entries.now c.loop-i.i no_entry c.loop-i-test.true c.if-e-time.false) ∙ c.loop-i.invariant
 
 pub returns : goal.returns
 returns c =
-    sym c.loop-i.invariant ∙ at_drop_all (absent c.args.time) c.args.entries.now c.loop-i.i c.loop-i-test.false
+    let facts = c.binary_search_by_key.ensures in
+    searched c.args.entries.now c.requires c.args.time _ facts.bound (facts.position (λ (e : Entry). e.time) (answers_always _ _ _ (λ f a r g called. search rules)))

@@ -1,16 +1,12 @@
-use Rattle.std.proofs.Common.{arith}
-use Rattle.std.proofs.lemmas.List.{at_drop_more, at_drop_all}
-use Rattle.sorted_list.specs.Entries.{size, no_entry}
+use Rattle.std.proofs.Common.{◌∙◌, sym, rules, tests, arith}
+use Rattle.std.proofs.lemmas.Iterator.{YieldsList-from_slice, YieldsList-from_map}
+use Rattle.std.proofs.lemmas.Iterator.Consumers.{sum_by_from_yields_List, fits_by_from_yields_list}
+use Rattle.sorted_list.specs.declared.entry.Entry.{Entry}
+use Rattle.sorted_list.proofs.Meaning.{sum-size}
 use Rattle.sorted_list.proofs.entry.sum.Goals as goal
 
-pub overflow_add-n : goal.overflow_add-n
-overflow_add-n c =
-    let e = at_drop_more size c.args.entries.now c.loop-e.e-index no_entry c.loop-e-test.true in omega (arith, c.requires)
-
-pub loop-e-preserved : goal.loop-e-preserved
-loop-e-preserved c =
-    let e = at_drop_more size c.args.entries.now c.loop-e.e-index no_entry c.loop-e-test.true in omega arith
+pub sum-requires-clause-fits : goal.sum-requires-clause-fits
+sum-requires-clause-fits c = fits_by_from_yields_list _ _ c.map.result _ (YieldsList-from_map _ (λ (e : Entry). e.count) (YieldsList-from_slice c.args.entries.now cc) c.map.ensures.closure (λ x r q k. search (rules, tests))) (omega (arith, c.requires, sum-size c.args.entries.now))
 
 pub returns : goal.returns
-returns c =
-    let e = at_drop_all size c.args.entries.now c.loop-e.e-index c.loop-e-test.false in omega arith
+returns c = sum_by_from_yields_List _ _ c.map.result _ c.sum.ensures.ran (YieldsList-from_map _ (λ (e : Entry). e.count) (YieldsList-from_slice c.args.entries.now cc) c.map.ensures.closure (λ x r q k. search (rules, tests))) ∙ sym (sum-size c.args.entries.now)
