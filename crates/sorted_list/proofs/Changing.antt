@@ -1,12 +1,12 @@
 -- One lease more or less in an entry that stays.
-use Rattle.std.proofs.Common.{◌≡◌, ℕ, zero, suc, ◌+◌, ◌-◌, ◌<◌, ◌≤◌, true, List, [], ◌∷◌, length, get_or, set, sym, refl, ap, ◌∙◌, subst, add-one, arith}
+use Rattle.std.proofs.Common.{◌≡◌, ℕ, zero, suc, ◌+◌, ◌-◌, ◌<◌, ◌≤◌, true, List, [], ◌∷◌, length, get_or, set, sym, refl, ap, ◌∙◌, add-one, arith}
 use Rattle.std.specs.List.{refill}
 use Rattle.std.proofs.lemmas.Bool.Decides.{nat_tests}
 use Rattle.std.proofs.lemmas.List.{length-set, get_or-set_same, set-set, set-get_or}
 use Rattle.arrayvec.proofs.ArrayVecLemmas.{items-with_items}
 use Rattle.lease.specs.Times.{insert, delete}
 use Rattle.lease.proofs.Bags.{delete-insert}
-use Rattle.sorted_list.specs.declared.entry.Entry.{Entry}
+use Rattle.sorted_list.specs.declared.Entry.{Entry}
 use Rattle.sorted_list.specs.Entries.{many, times, size, rising, ahead, no_entry}
 use Rattle.sorted_list.proofs.Meaning.{insert-many}
 

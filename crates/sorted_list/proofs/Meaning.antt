@@ -6,7 +6,7 @@ use Rattle.std.proofs.lemmas.Bool.{lt-leb, le-leb, cases_lt}
 use Rattle.std.proofs.lemmas.List.Sums.{sum_by-cons}
 use Rattle.lease.specs.Times.{insert, count, least, sooner}
 use Rattle.lease.proofs.Bags.{insert_comm, length-insert, count-insert, least-insert}
-use Rattle.sorted_list.specs.declared.entry.Entry.{Entry}
+use Rattle.sorted_list.specs.declared.Entry.{Entry}
 use Rattle.sorted_list.specs.Entries.{many, times, size, rising, ahead, no_entry, Gap}
 
 length-many : (n t : ℕ) (l : List ℕ) → length (many n t l) ≡ n + length l

@@ -4,7 +4,7 @@ use Rattle.std.specs.List.{insert as put_in, remove}
 use Rattle.std.proofs.lemmas.Bool.Decides.{nat_tests}
 use Rattle.lease.specs.Times.{insert, delete}
 use Rattle.lease.proofs.Bags.{delete-insert}
-use Rattle.sorted_list.specs.declared.entry.Entry.{Entry}
+use Rattle.sorted_list.specs.declared.Entry.{Entry}
 use Rattle.sorted_list.specs.Entries.{many, times, size, rising, ahead, no_entry, Gap}
 use Rattle.sorted_list.proofs.Meaning.{insert-many, many-many, rising_tail, later, positive}
 

@@ -8,7 +8,7 @@
 --     Searched         what a search for the entry of a time answers
 use Rattle.std.specs.Prelude.{◌≡◌, ℕ, zero, suc, ◌+◌, ◌<◌, ◌≤◌, Bool, true, ◌&&◌, List, [], ◌∷◌, length, Ok, Err, Result, nat_lt, slice_index_or}
 use Rattle.lease.specs.Times.{insert}
-use Rattle.sorted_list.specs.declared.entry.Entry.{Entry}
+use Rattle.sorted_list.specs.declared.Entry.{Entry}
 
 abbrev pub list_capacity : ℕ
 list_capacity = 32

@@ -2,20 +2,24 @@
 #![tactic(auto)]
 
 ghost use Rattle.std.specs.Prelude.{◌≡◌, ◌≤◌, true};
-ghost use Rattle.sorted_list.specs.Entries.{times, size, rising, list_capacity};
+ghost use Rattle.sorted_list.specs.Entries.{times, size, rising, list_capacity, Searched};
 ghost use Rattle.std.proofs.Common.{rules, arith};
 
-use crate::entry::Entry;
 use arrayvec::ArrayVec;
 use lease::fault::RegistryFault;
 use lease::registry::Registry;
-
-mod entry;
 
 const PLACES: usize = 32;
 
 // An entry goes with its last lease.
 const LAST: u32 = 1;
+
+// A time with its number of leases.
+#[derive(Clone, Copy, Default)]
+struct Entry {
+    time: u32,
+    count: u32,
+}
 
 // The entries in rising order. Every entry has a lease, so that as many places as leases are enough.
 #[derive(Drop)]
@@ -23,6 +27,15 @@ pub struct SortedList {
     entries: ArrayVec<Entry, PLACES>,
     ghost few: { size entries.items ≤ list_capacity },
     ghost ordered: { rising entries.items ≡ true },
+}
+
+impl SortedList {
+    // Where the entry of a time stands, or where it would go.
+    fn place_of(&self, time: u32) -> Result<usize, usize>
+        ensures { Searched time self.now.entries.items result }
+    {
+        self.entries.binary_search_by_key(&time, |e| e.time)
+    }
 }
 
 impl Registry for SortedList {
@@ -49,7 +62,7 @@ impl Registry for SortedList {
         if held >= Self::CAPACITY {
             return Err(RegistryFault::at_capacity(Self::CAPACITY));
         }
-        match entry::place_of(&self.entries, time) {
+        match self.place_of(time) {
             Ok(i) => self.entries[i].count += 1,
             Err(i) => self.entries.insert(i, Entry { time, count: 1 }),
         }
@@ -57,7 +70,7 @@ impl Registry for SortedList {
     }
 
     fn remove(&mut self, time: u32) -> Result<(), RegistryFault> {
-        let Ok(i) = entry::place_of(&self.entries, time) else {
+        let Ok(i) = self.place_of(time) else {
             return Err(RegistryFault::not_open(time));
         };
         if self.entries[i].count > LAST {
@@ -69,14 +82,19 @@ impl Registry for SortedList {
     }
 
     fn count_at(&self, time: u32) -> u32 {
-        entry::count_in(&self.entries, time)
+        match self.place_of(time) {
+            Ok(i) => self.entries[i].count,
+            Err(_) => 0,
+        }
     }
 
     fn total(&self) -> u32 {
-        entry::sum(&self.entries)
+        self.entries.iter().map(|e| e.count).sum()
     }
 
+    // The first time at or above the time is the least.
     fn least_from(&self, time: u32) -> Option<u32> {
-        entry::first_from(&self.entries, time)
+        let i = self.entries.partition_point(|e| e.time < time);
+        self.entries.get(i).map(|e| e.time)
     }
 }

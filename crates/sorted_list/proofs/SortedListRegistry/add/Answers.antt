@@ -1,6 +1,6 @@
-use Rattle.std.proofs.Common.{◌≡◌, Ok, Err, refl, ap, ◌∙◌, subst, arith}
-use Rattle.sorted_list.specs.declared.entry.Entry.{Entry}
-use Rattle.sorted_list.specs.Entries.{times, size, rising, Searched}
+use Rattle.std.proofs.Common.{refl, ap, ◌∙◌, arith}
+use Rattle.sorted_list.specs.declared.Entry.{Entry}
+use Rattle.sorted_list.specs.Entries.{times, size, rising}
 use Rattle.sorted_list.proofs.Meaning.{length-times, length_le_size, count_le_size}
 use Rattle.sorted_list.proofs.Placing.{times-put, size-put, rising-put}
 use Rattle.sorted_list.proofs.Changing.{raised}
@@ -16,14 +16,14 @@ pub overflow_add-deref_mut : goal.overflow_add-deref_mut
 overflow_add-deref_mut c =
     let s = c.args.self.now in
     let es = s.entries.items in
-    let f = subst (λ xs. Searched c.args.time xs (Ok c.in-Ok.i)) c.deref.ensures.0 c.in-Ok.ensures in
+    let f = c.in-Ok.ensures in
     rw c.deref_mut.ensures.value (omega (arith, count_le_size es c.in-Ok.i f.0, s.few))
 
 pub invariant_of-self : goal.invariant_of-self
 invariant_of-self c =
     let s = c.args.self.now in
     let es = s.entries.items in
-    let f = subst (λ xs. Searched c.args.time xs (Ok c.in-Ok.i)) c.deref.ensures.0 c.in-Ok.ensures in
+    let f = c.in-Ok.ensures in
     let b = raised c.args.time es c.deref_mut.result.now c.in-Ok.i c.deref_mut.ensures.value f.0 f.1 s.ordered in
     let l = length-times es in
     record { few = omega (arith, b.grown, c.total-held.ensures, c.if-held-ge-CAPACITY.false); ordered = b.order }
@@ -32,7 +32,7 @@ pub insert-requires : goal.insert-requires
 insert-requires c =
     let s = c.args.self.now in
     let es = s.entries.items in
-    let g = subst (λ xs. Searched c.args.time xs (Err c.in-Err.i)) c.deref.ensures.0 c.in-Err.ensures in
+    let g = c.in-Err.ensures in
     let l = length-times es in
     (omega arith, (g.within, omega (arith, length_le_size es s.ordered, c.total-held.ensures, c.if-held-ge-CAPACITY.false)))
 
@@ -40,7 +40,7 @@ pub invariant_of-self-in-Err : goal.invariant_of-self-in-Err
 invariant_of-self-in-Err c =
     let s = c.args.self.now in
     let es = s.entries.items in
-    let g = subst (λ xs. Searched c.args.time xs (Err c.in-Err.i)) c.deref.ensures.0 c.in-Err.ensures in
+    let g = c.in-Err.ensures in
     let one : Entry = record { time = c.args.time; count = 1 } in
     let l = length-times es in
     record {
@@ -52,7 +52,7 @@ pub returns-in-Ok : goal.returns-in-Ok
 returns-in-Ok c =
     let s = c.args.self.now in
     let es = s.entries.items in
-    let f = subst (λ xs. Searched c.args.time xs (Ok c.in-Ok.i)) c.deref.ensures.0 c.in-Ok.ensures in
+    let f = c.in-Ok.ensures in
     let b = raised c.args.time es c.deref_mut.result.now c.in-Ok.i c.deref_mut.ensures.value f.0 f.1 s.ordered in
     (omega (arith, c.total-held.ensures, c.if-held-ge-CAPACITY.false), b.means)
 

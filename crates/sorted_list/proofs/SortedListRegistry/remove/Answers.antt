@@ -1,6 +1,5 @@
-use Rattle.std.proofs.Common.{◌≡◌, ◌≤◌, ◌<◌, length, get_or, Ok, Err, refl, ap, ◌∙◌, subst, arith}
-use Rattle.lease.specs.Times.{count}
-use Rattle.sorted_list.specs.Entries.{times, size, rising, no_entry, Searched}
+use Rattle.std.proofs.Common.{get_or, refl, ap, ◌∙◌, arith}
+use Rattle.sorted_list.specs.Entries.{times, size, rising, no_entry}
 use Rattle.sorted_list.proofs.Meaning.{count_at, count_gap, positive}
 use Rattle.sorted_list.proofs.Placing.{out_size, out_rising, out_means}
 use Rattle.sorted_list.proofs.Changing.{lowered}
@@ -8,7 +7,7 @@ use Rattle.sorted_list.proofs.SortedListRegistry.remove.Goals as goal
 
 pub returns-in_default : goal.returns-in_default
 returns-in_default c =
-    let g = subst (λ xs. Searched c.args.time xs (Err c.in_default.field-0)) c.deref.ensures.0 c.in_default.ensures in
+    let g = c.in_default.ensures in
     (count_gap c.args.time c.args.self.now.entries.items c.in_default.field-0 g, c.not_open.ensures, refl)
 
 pub invariant_of-self : goal.invariant_of-self
@@ -16,8 +15,8 @@ invariant_of-self c =
     let s = c.args.self.now in
     let es = s.entries.items in
     let i = c.in-Ok.i in
-    let f = subst (λ xs. Searched c.args.time xs (Ok i)) c.deref.ensures.0 c.in-Ok.ensures in
-    let n = ap (λ xs. (get_or xs i no_entry).count) c.deref-2.ensures.0 in
+    let f = c.in-Ok.ensures in
+    let n = ap (λ xs. (get_or xs i no_entry).count) c.deref.ensures.0 in
     let b = lowered c.args.time es c.deref_mut.result.now i c.deref_mut.ensures.value f.0 f.1 (omega (arith, n, c.if-deref-i-gt-LAST.true)) s.ordered in
     record { few = omega (arith, b.shrunk, s.few); ordered = b.order }
 
@@ -34,8 +33,8 @@ returns-then-deref-i-gt-LAST c =
     let es = s.entries.items in
     let i = c.in-Ok.i in
     let t = c.args.time in
-    let f = subst (λ xs. Searched t xs (Ok i)) c.deref.ensures.0 c.in-Ok.ensures in
-    let n = ap (λ xs. (get_or xs i no_entry).count) c.deref-2.ensures.0 in
+    let f = c.in-Ok.ensures in
+    let n = ap (λ xs. (get_or xs i no_entry).count) c.deref.ensures.0 in
     let b = lowered t es c.deref_mut.result.now i c.deref_mut.ensures.value f.0 f.1 (omega (arith, n, c.if-deref-i-gt-LAST.true)) s.ordered in
     (omega (arith, count_at es i t f.0 f.1 s.ordered, positive es i f.0 s.ordered), b.means)
 
@@ -45,6 +44,6 @@ returns-else-deref-i-gt-LAST c =
     let es = s.entries.items in
     let i = c.in-Ok.i in
     let t = c.args.time in
-    let f = subst (λ xs. Searched t xs (Ok i)) c.deref.ensures.0 c.in-Ok.ensures in
-    let n = ap (λ xs. (get_or xs i no_entry).count) c.deref-2.ensures.0 in
+    let f = c.in-Ok.ensures in
+    let n = ap (λ xs. (get_or xs i no_entry).count) c.deref.ensures.0 in
     (omega (arith, count_at es i t f.0 f.1 s.ordered, positive es i f.0 s.ordered), ap times c.remove.ensures.items ∙ out_means es i t f.0 f.1 (omega (arith, n, c.if-deref-i-gt-LAST.false)) s.ordered)
