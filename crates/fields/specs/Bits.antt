@@ -1,6 +1,7 @@
 -- The bits of a union of masks.
-use Rattle.std.specs.Prelude.{◌≡◌, ℕ, ◌/◌, ◌^◌, ◌||◌, ◌==◌, bit_and, bit_or}
-use Rattle.std.proofs.Common.{ap, arith}
+use Rattle.std.specs.Prelude.{◌≡◌, ℕ, ◌/◌, ◌^◌, true, false, ◌||◌, ◌==◌, ◌≢◌, bit_and, bit_or}
+use Rattle.std.proofs.Common.{sym, ap, ◌∙◌, arith, eq-eqb}
+use Rattle.std.proofs.lemmas.Bool.{ne_eqb}
 use Rattle.std.proofs.lemmas.Bool.Decides.{nat_tests}
 use Rattle.std.proofs.lemmas.Nat.Bits.{bit_at_or, bit_at-lt, shr_and_one}
 use Rattle.fields.specs.Masks.{has}
@@ -15,3 +16,9 @@ has_or a b i =
 -- the test of a bit as the code makes it
 pub has_tested : (m i : ℕ) → (bit_and (m / 2 ^ i) 1 == 1) ≡ has m i
 has_tested m i = ap (λ b. b == 1) (shr_and_one m i)
+
+pub has_yes : (m i : ℕ) → bit_and (m / 2 ^ i) 1 ≡ 1 → has m i ≡ true
+has_yes m i h = sym (has_tested m i) ∙ eq-eqb (bit_and (m / 2 ^ i) 1) 1 h
+
+pub has_no : (m i : ℕ) → (bit_and (m / 2 ^ i) 1 ≢ 1) → has m i ≡ false
+has_no m i h = sym (has_tested m i) ∙ ne_eqb (bit_and (m / 2 ^ i) 1) 1 h
