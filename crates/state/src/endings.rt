@@ -75,7 +75,8 @@ impl<K: Kind> State<K> {
         }
     }
 
-    // Finishes every change of the writer w at the time t, which is the clock.
+    // Finishes every change of the writer w at the time t, which is the clock. By index: each step writes the record and its chain.
+    // One loop over a closure would be no plainer than this and the next: its contract would have to say what state each step meets.
     fn finish_all(&mut self, w: u32, t: u32)
         requires { t ≡ (view self.old).clock }
         ensures { view self.new ≡ every K.ops (finish_stored K.ops w t) (view self.old) }
