@@ -26,7 +26,7 @@ invariant_of-self g c =
     let x = c.index-entry.result.now in
     let L = get_or (chains s.table) i [] in
     let b = there (free_stored k w) s i x c.requires c.index-entry.ensures in
-    let v = write_view (free_stored k w) s i x (record { row = c.take_back-row.result; last = x.last; holder = None }) (drop 1 L) c.take_back-row.new.table c.requires c.index-entry.ensures c.take_back-row.ensures.taken (ap (λ q. stored (record { row = q; last = x.last; holder = None }) (drop 1 L)) c.take_back-row.ensures.row ∙ free_one k w x c.in-Some.v L c.in-Some.is c.if-v-w.true b) in record { sound = write_sound (free_stored k w) s i x (record { row = c.take_back-row.result; last = x.last; holder = None }) (drop 1 L) c.take_back-row.new.table c.requires c.index-entry.ensures c.take_back-row.ensures.taken refl; falling = ap (all_fall s.clock) v ∙ all_changed s.clock (free_stored k w) (free_keeps k s.clock w) (viewed (vec_items s.records) (chains s.table)) i s.falling; few = ap (λ n. leb n 4096) (length-set (vec_items s.records) i _) ∙ s.few }
+    let v = write_view (free_stored k w) s i x (record { row = c.take_back-row.result; last = x.last; holder = None }) (drop 1 L) c.take_back-row.new.table c.requires c.index-entry.ensures c.take_back-row.ensures.taken.lists (ap (λ q. stored (record { row = q; last = x.last; holder = None }) (drop 1 L)) c.take_back-row.ensures.row ∙ free_one k w x c.in-Some.v L c.in-Some.is c.if-v-w.true b) in record { sound = write_sound (free_stored k w) s i x (record { row = c.take_back-row.result; last = x.last; holder = None }) (drop 1 L) c.take_back-row.new.table c.requires c.index-entry.ensures c.take_back-row.ensures.taken.lists refl; falling = ap (all_fall s.clock) v ∙ all_changed s.clock (free_stored k w) (free_keeps k s.clock w) (viewed (vec_items s.records) (chains s.table)) i s.falling; few = ap (λ n. leb n 4096) (length-set (vec_items s.records) i _) ∙ s.few }
 
 pub returns-then-v-w : goal.returns-then-v-w
 unfolding view
@@ -38,8 +38,8 @@ returns-then-v-w g c =
     let x = c.index-entry.result.now in
     let L = get_or (chains s.table) i [] in
     let b = there (free_stored k w) s i x c.requires c.index-entry.ensures in
-    let v = write_view (free_stored k w) s i x (record { row = c.take_back-row.result; last = x.last; holder = None }) (drop 1 L) c.take_back-row.new.table c.requires c.index-entry.ensures c.take_back-row.ensures.taken (ap (λ q. stored (record { row = q; last = x.last; holder = None }) (drop 1 L)) c.take_back-row.ensures.row ∙ free_one k w x c.in-Some.v L c.in-Some.is c.if-v-w.true b) in
-    λ j. record { clock = s.clock; room = c.take_back-row.ensures.room j; records = v j }
+    let v = write_view (free_stored k w) s i x (record { row = c.take_back-row.result; last = x.last; holder = None }) (drop 1 L) c.take_back-row.new.table c.requires c.index-entry.ensures c.take_back-row.ensures.taken.lists (ap (λ q. stored (record { row = q; last = x.last; holder = None }) (drop 1 L)) c.take_back-row.ensures.row ∙ free_one k w x c.in-Some.v L c.in-Some.is c.if-v-w.true b) in
+    λ j. record { clock = s.clock; room = c.take_back-row.ensures.taken.room j; records = v j }
 
 pub returns-else-v-w : goal.returns-else-v-w
 returns-else-v-w g c =
