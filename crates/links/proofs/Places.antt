@@ -1,11 +1,13 @@
 -- The places of a list, by the links that lead to them.
-use Rattle.std.proofs.Common.{◌≡◌, ℕ, zero, suc, ◌+◌, ◌-◌, ◌<◌, ◌≤◌, List, [], ◌∷◌, ◌++◌, length, get_or, take, drop, set, Some, None, Option, sym, refl, ap, ◌∙◌, add-one, arith, MatchOption}
+use Rattle.std.proofs.Common.{◌≡◌, ℕ, zero, suc, ◌+◌, ◌-◌, ◌^◌, ◌<◌, ◌≤◌, List, [], ◌∷◌, ◌++◌, length, get_or, take, drop, set, Some, None, sum_by, Option, sym, refl, ap, ◌∙◌, ⊎_elim, add-one, arith, MatchOption}
 use Rattle.std.specs.List.{slice_get}
-use Rattle.std.proofs.lemmas.List.{get_or_read, length-drop, drop-drop}
+use Rattle.std.proofs.lemmas.Bool.{cases_lt}
+use Rattle.std.proofs.lemmas.List.{get_or_read, get_or_past, get_or-set_same, length-drop, drop-drop}
+use Rattle.std.proofs.lemmas.List.Sums.{get_or-le-sum_by}
 use Rattle.links.specs.declared.table.Links.{Links}
-use Rattle.links.specs.Meaning.{slots, from, Onto, before}
+use Rattle.links.specs.Meaning.{slots, size, list, from, Onto, before}
 use Rattle.links.proofs.Linked.{Run, good_run, inv_from}
-use Rattle.links.proofs.Steps.{row_in}
+use Rattle.links.proofs.Steps.{row_in, used_is}
 use Rattle.links.proofs.CutSteps.{place}
 
 pub slice_get_inside : {X : Type 0} (xs : List X) (k : ℕ) (x : X) → slice_get xs k ≡ Some x → k < length xs
@@ -85,6 +87,11 @@ module _ (l : Links) (r k s : ℕ) (e : slice_get (get_or (slots l) r []) k ≡ 
       let p = place l r k s (row_of (slots l) r k s e) (slice_get_inside _ k s e) (slice_get-get_or _ k s 0 e) in
       get_or_read l.next.items s o p.0 eo None ∙ run_head l.next.items _ _ p.1 ∙ slice_get_drop (get_or (slots l) r []) (k + 1)
 
+-- a place behind the last slot of a list
+pub behind_last : (L : List ℕ) (k : ℕ) (o : Option ℕ) → o ≡ before L k → o ≡ None → (k ≡ 0 → ⊥) → None ≡ slice_get L k
+behind_last L zero o e n h = absurd (h refl)
+behind_last L (suc k) o e n h = sym (slice_get_past L k (sym e ∙ n))
+
 -- the place k, by the link to the place before it
 pub at_front : (L : List ℕ) (k : ℕ) (o : Option ℕ) → k < length L → o ≡ before L k → o ≡ None → k ≡ 0
 at_front L zero o h e n = refl
@@ -109,3 +116,20 @@ pub record Front (l : Links) (r s : ℕ) : Type 0 where
 
 pub front : (l : Links) (r s : ℕ) → Some s ≡ slice_get (get_or (slots l) r []) 0 → Front l r s
 front l r s e = let h = row_of (slots l) r 0 s (sym e) in record { row = h; head = head_is l r h ∙ sym e }
+
+-- the cursor before the place k that has left the list
+pub cut_stands : (S T : List (List ℕ)) (r k : ℕ) (o : Option ℕ) → k < length (get_or S r []) → o ≡ before (get_or S r []) k → T ≡ set S r (take k (get_or S r []) ++ drop (k + 1) (get_or S r [])) → o ≡ before (get_or T r []) k
+cut_stands S T r k o h e c =
+    let L = get_or S r [] in
+    let inside : k ≤ length L = omega arith in
+    let row : get_or T r [] ≡ take k L ++ drop (k + 1) L = ap (λ ls. get_or ls r []) c ∙ get_or-set_same S r _ [] (row_in_range S r k h) in
+    e ∙ sym (ap (λ M. before M k) row ∙ before_cut L k (drop (k + 1) L) inside)
+
+-- there are no more slots in lists than there are
+pub slots_le : (l : Links) → sum_by length (slots l) ≤ size l
+unfolding slots size
+slots_le l = omega (arith, used_is l.next.items l.heads.items l.free l.used l.sound l.counted, l.counted)
+
+pub list_small : (l : Links) (r : ℕ) → length (list l r) < 2 ^ 63
+unfolding size
+list_small l r = ⊎_elim (λ (h : r < length (slots l)). omega (arith, get_or-le-sum_by length (slots l) r [] h, slots_le l, l.next.ok.0, l.next.ok.1, l.next.small)) (λ (h : length (slots l) ≤ r). omega (arith, ap length (get_or_past (slots l) r [] h))) (cases_lt r (length (slots l)))

@@ -174,10 +174,6 @@ pub slots_once : (l : Links) (x : ℕ) → sum_by (count x) (slots l) ≤ 1
 unfolding slots
 slots_once l x = omega (arith, l.sound.1 x, sum_by-cons (count x) (walk l.next.items (length l.next.items) l.free) (walks l.next.items l.heads.items))
 
-pub slots_le : (l : Links) → sum_by length (slots l) ≤ size l
-unfolding slots size
-slots_le l = omega (arith, used_is l.next.items l.heads.items l.free l.used l.sound l.counted, l.counted)
-
 row_len : {C : Type 0} (k : VersionTable C) (r : ℕ) → r < length (slots k.links) → length (pick k.versions.items (get_or (slots k.links) r [])) ≡ length (get_or (slots k.links) r [])
 unfolding slots size
 row_len k r h =
@@ -220,10 +216,6 @@ row_empty vs ls r e = get_or_over (pick vs) (pick-nil vs) ls r ∙ ap (pick vs) 
 
 pub inside_versions : {C : Type 0} (k : VersionTable C) (s : ℕ) → s < size k.links → s < length k.versions.items
 inside_versions k s h = omega (arith, h, k.sized)
-
-pub list_small : (l : Links) (r : ℕ) → length (get_or (slots l) r []) < 2 ^ 63
-unfolding size
-list_small l r = ⊎_elim (λ (h : r < length (slots l)). omega (arith, get_or-le-sum_by length (slots l) r [] h, slots_le l, l.next.ok.0, l.next.ok.1, l.next.small)) (λ (h : length (slots l) ≤ r). omega (arith, ap length (get_or_past (slots l) r [] h))) (cases_lt r (length (slots l)))
 
 pub fresh_chains : {X : Type 0} (vs : List X) (n : ℕ) (ls : List (List ℕ)) → ls ≡ replicate n [] → map (pick vs) ls ≡ replicate n []
 fresh_chains vs n ls e = ap (map (pick vs)) e ∙ go n
