@@ -3,7 +3,6 @@ ghost use Rattle.history.specs.Model.{new_model};
 ghost use Rattle.store.specs.View.{view};
 ghost use Rattle.transcript.specs.Printing.{print_line, print_lines, Behind, left};
 
-use crate::fault::NoMemory;
 use crate::text::Told;
 use lease::registry::Registry;
 use run::perform::perform;
@@ -11,7 +10,7 @@ use run::turn::wrote;
 use script::command::read_call;
 use script::kinds::ScriptKind;
 use script::reader::Reader;
-use std::alloc::Global;
+use std::alloc::{AllocError, Global};
 use std::fmt::Write;
 use store::sizes::Sizes;
 use store::store::Store;
@@ -26,12 +25,13 @@ fn run_line<K: ScriptKind, R: Registry>(
     line: &[u8],
     number: usize,
     out: &mut String,
-) -> Result<(), NoMemory>
+) -> Result<(), AllocError>
     ensures { OnOk result (Behind (print_line K.ops K.terms R.capacity number (view store.old) (R.leases registry.old) line.now) (string_bytes out.old) (string_bytes out.new) (view store.new) (R.leases registry.new)) }
 {
     match read_call::<K>(line, number) {
-        Err(fault) => Ok(writeln!(out, "{fault}")?),
+        Err(fault) => writeln!(out, "{fault}"),
         Ok(call) => {
+            // The store writes times at the front of a list that it is given.
             let mut list = [0; ROOM];
             let outcome = perform::<K, R>(store, registry, call, &mut list);
             let told = Told::<K> {
@@ -39,7 +39,7 @@ fn run_line<K: ScriptKind, R: Registry>(
                 times: &list[..wrote(outcome)],
                 line: number,
             };
-            Ok(write!(out, "{told}")?)
+            write!(out, "{told}")
         }
     }
 }
@@ -50,7 +50,7 @@ pub fn run_lines<K: ScriptKind, R: Registry + Drop>(
     sizes: Sizes,
     reader: &mut Reader,
     out: &mut String,
-) -> Result<(), NoMemory>
+) -> Result<(), AllocError>
     ensures { OnOk result (string_bytes out.new ≡ string_bytes out.old ++ print_lines K.ops K.terms R.capacity (reader.old.line + 1) (new_model K.ops sizes.records sizes.versions sizes.start) [] (left reader.old)) }
 {
     let mut store = Store::<K>::make(heap, sizes)?;
@@ -61,5 +61,5 @@ pub fn run_lines<K: ScriptKind, R: Registry + Drop>(
     }
     let used = store.in_use();
     let leases = registry.total();
-    Ok(writeln!(out, "end {used} {leases}")?)
+    writeln!(out, "end {used} {leases}")
 }

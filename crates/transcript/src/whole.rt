@@ -4,7 +4,6 @@ ghost use Rattle.transcript.specs.Printing.{left};
 ghost use Rattle.transcript.specs.Texts.{fault_line};
 ghost use Rattle.transcript.specs.Transcripts.{Transcript, Begun, print_by};
 
-use crate::fault::NoMemory;
 use crate::lines::run_lines;
 use fields::Fields;
 use script::fault::ScriptFault;
@@ -12,7 +11,7 @@ use script::opening::{KindLetter, Opening, RegistryLetter, read_opening};
 use script::reader::Reader;
 use slot_table::SlotTable;
 use sorted_list::SortedList;
-use std::alloc::Global;
+use std::alloc::{AllocError, Global};
 use store::sizes::Sizes;
 use tallies::Tallies;
 
@@ -26,7 +25,7 @@ fn run_opened(
     sizes: Sizes,
     reader: &mut Reader,
     out: &mut String,
-) -> Result<(), NoMemory>
+) -> Result<(), AllocError>
     ensures { OnOk result (string_bytes out.new ≡ string_bytes out.old ++ print_by opening.kind opening.registry (reader.old.line + 1) sizes.records sizes.versions sizes.start (left reader.old)) }
 {
     match (opening.kind, opening.registry) {
@@ -46,14 +45,14 @@ fn run_opened(
 }
 
 // All that is printed of a script that is refused before its second line.
-fn refusal(heap: Global, fault: ScriptFault) -> Result<String, NoMemory>
+fn refusal(heap: Global, fault: ScriptFault) -> Result<String, AllocError>
     ensures { IfOk result (λ text. string_bytes text ≡ fault_line fault) }
 {
-    Ok(format!(in heap; "{fault}\n")?)
+    format!(in heap; "{fault}\n")
 }
 
 // Reads the first line and runs the others, or prints why the run ends there.
-fn begin(heap: Global, first: &[u8], reader: &mut Reader) -> Result<String, NoMemory>
+fn begin(heap: Global, first: &[u8], reader: &mut Reader) -> Result<String, AllocError>
     requires { reader.old.line ≡ 1 }
     ensures { IfOk result (λ text. Begun (opening first.now) (left reader.old) (string_bytes text)) }
 {
@@ -71,7 +70,7 @@ fn begin(heap: Global, first: &[u8], reader: &mut Reader) -> Result<String, NoMe
 }
 
 // What a script prints: the text of each line, for any bytes. Want of memory is the one error.
-pub fn transcript(heap: Global, script: &[u8]) -> Result<String, NoMemory>
+pub fn transcript(heap: Global, script: &[u8]) -> Result<String, AllocError>
     ensures { IfOk result (λ text. Transcript script.now (string_bytes text)) }
 {
     if script.len() > LONGEST {

@@ -1,5 +1,5 @@
+use std::alloc::AllocError;
 use std::io;
-use transcript::fault::NoMemory;
 
 // What keeps the program from printing: a failed read or write, or want of memory. A script's refusals are no trouble.
 #[derive(Debug, Drop)]
@@ -15,8 +15,8 @@ impl From<io::Error> for Trouble {
     }
 }
 
-impl From<NoMemory> for Trouble {
-    fn from(_e: NoMemory) -> Trouble {
+impl From<AllocError> for Trouble {
+    fn from(_e: AllocError) -> Trouble {
         Trouble::NoMemory
     }
 }
