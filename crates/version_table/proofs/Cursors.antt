@@ -1,9 +1,8 @@
 -- A place in a chain: what is read there, and what a write and a cut make.
-use Rattle.std.proofs.Common.{◌≡◌, ℕ, zero, suc, ◌+◌, ◌<◌, ◌≤◌, Bool, cond, ltb, List, [], ◌∷◌, ◌++◌, map, length, get_or, take, drop, set, Some, None, Option, sym, refl, ap, ◌∙◌, arith, MatchOption}
+use Rattle.std.proofs.Common.{◌≡◌, ℕ, zero, suc, ◌+◌, ◌<◌, ◌≤◌, List, [], ◌∷◌, ◌++◌, map, length, get_or, take, drop, set, Some, None, Option, sym, refl, ap, ◌∙◌, arith, MatchOption}
 use Rattle.std.specs.List.{slice_get}
 use Rattle.std.proofs.lemmas.List.{map-set, set-get_or}
 use Rattle.std.proofs.lemmas.List.Sums.{get_or-le-sum_by}
-use Rattle.std.proofs.lemmas.Bool.{lt-ltb}
 use Rattle.std.proofs.lemmas.Option.{slice_get_read, slice_get_past}
 use Rattle.chain.specs.declared.version.Version.{Version}
 use Rattle.links.specs.Walk.{count}
@@ -80,11 +79,3 @@ front_is [] None e = refl
 front_is [] (Some y) e = let z : ◌≡◌ {A = ℕ} 0 1 = cc in let f : ⊥ = omega arith in absurd f
 front_is (x ∷ xs) None e = let z : ◌≡◌ {A = ℕ} 0 1 = cc in let f : ⊥ = omega arith in absurd f
 front_is (x ∷ xs) (Some y) e = let q : x ≡ y = cc in ap (λ z. z ∷ xs) q
-
--- a write to the front, where there is one
-pub front_written : {X : Type 0} (cs ds : List (List X)) (r : ℕ) (x : X) (ok : Bool) → ok ≡ ltb 0 (length (get_or cs r [])) → ds ≡ set cs r (set (get_or cs r []) 0 x) → ds ≡ cond ok (set cs r (x ∷ drop 1 (get_or cs r []))) cs
-front_written {X} cs ds r x ok h e = go (get_or cs r []) refl ∙ ap (λ b. cond b (set cs r (x ∷ drop 1 (get_or cs r []))) cs) (sym h)
-  where
-    go : (L : List X) → get_or cs r [] ≡ L → ds ≡ cond (ltb 0 (length (get_or cs r []))) (set cs r (x ∷ drop 1 (get_or cs r []))) cs
-    go [] q = e ∙ ap (λ M. set cs r (set M 0 x)) q ∙ ap (set cs r) (sym q) ∙ set-get_or cs r [] ∙ sym (ap (λ M. cond (ltb 0 (length M)) (set cs r (x ∷ drop 1 M)) cs) q)
-    go (y ∷ L) q = e ∙ ap (λ M. set cs r (set M 0 x)) q ∙ sym (ap (λ M. cond (ltb 0 (length M)) (set cs r (x ∷ drop 1 M)) cs) q ∙ ap (λ b. cond b (set cs r (x ∷ L)) cs) (lt-ltb 0 (suc (length L)) (omega arith)))

@@ -4,7 +4,7 @@ use Rattle.std.specs.List.{slice_get}
 use Rattle.std.proofs.lemmas.List.{get_or-set_same, length-set, length-drop, take_more, drop_all, set-set}
 use Rattle.kind.specs.Kinds.{Ops, same}
 use Rattle.chain.specs.declared.version.Version.{Version}
-use Rattle.chain.specs.Pruning.{open_in, floor, absorb, join_versions, prune, prune_held}
+use Rattle.chain.specs.Pruning.{open_in, floor, absorb, join_versions, prune}
 use Rattle.chain.proofs.Rule.{keep, idle, join}
 use Rattle.links.proofs.Places.{row_in_range, slice_get_inside, slice_get-get_or, slice_get_end, slice_get_drop}
 use Rattle.links.proofs.Ways.{set_again}
@@ -107,19 +107,3 @@ module _ {Row Edit Change : Type 0} (k : Ops Row Edit Change) (os : ℕ → ℕ)
 pub absorb_short : {Row Edit Change : Type 0} (k : Ops Row Edit Change) (p : Version Change) (vs : List (Version Change)) → length (absorb k p vs) ≤ length vs
 absorb_short k p [] = omega arith
 absorb_short k p (v ∷ vs) = omega arith
-
--- pruning behind a first version
-module _ {Row Edit Change : Type 0} (k : Ops Row Edit Change) (os : ℕ → ℕ) (place : Row) (C : List (Version Change)) where
-  pub held_none : slice_get C 0 ≡ None → prune_held k os place C ≡ C
-  held_none e = ap (prune_held k os place) (empty C e) ∙ sym (empty C e)
-    where
-      empty : (xs : List (Version Change)) → slice_get xs 0 ≡ None → xs ≡ []
-      empty [] f = refl
-      empty (x ∷ xs) f = let z : ◌≡◌ {A = ℕ} 0 1 = cc in let n : ⊥ = omega arith in absurd n
-
-  pub held_first : (v : Version Change) (r : Row) → slice_get C 0 ≡ Some v → r ≡ k.undo place v.change → take 1 C ++ prune k os r (drop 1 C) ≡ prune_held k os place C
-  held_first v r e q = go C e
-    where
-      go : (xs : List (Version Change)) → slice_get xs 0 ≡ Some v → take 1 xs ++ prune k os r (drop 1 xs) ≡ prune_held k os place xs
-      go [] f = let z : ◌≡◌ {A = ℕ} 0 1 = cc in let n : ⊥ = omega arith in absurd n
-      go (x ∷ xs) f = let s : v ≡ x = cc in ap (λ y. x ∷ prune k os y xs) (q ∙ ap (λ y. k.undo place y.change) s)

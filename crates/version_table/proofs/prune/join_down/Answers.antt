@@ -1,11 +1,12 @@
-use Rattle.std.proofs.Common.{◌≡◌, ◌+◌, List, [], ◌++◌, take, drop, set, sym, ap, ◌∙◌, subst}
+use Rattle.std.proofs.Common.{◌≡◌, ◌+◌, List, [], ◌++◌, length, take, drop, set, sym, ap, ◌∙◌, arith}
 use Rattle.std.proofs.lemmas.List.{set-get_or}
 use Rattle.std.specs.List.{slice_get}
-use Rattle.links.specs.Meaning.{size}
+use Rattle.links.specs.Meaning.{size, list}
 use Rattle.links.proofs.Places.{row_in_range}
 use Rattle.chain.specs.declared.version.Version.{Version}
 use Rattle.chain.specs.Pruning.{absorb}
 use Rattle.version_table.specs.Chains.{chains, chain, capacity}
+use Rattle.version_table.proofs.Picks.{chain_len}
 use Rattle.version_table.proofs.Cursors.{inside_list}
 use Rattle.version_table.proofs.Turns.{absorb_next, absorb_last, cut_again}
 use Rattle.version_table.proofs.prune.join_down.Goals.{in-Some, in_default}
@@ -13,6 +14,14 @@ use Rattle.version_table.proofs.prune.join_down.Goals as goal
 
 pub step-next-requires-clause-inside : goal.step-next-requires-clause-inside
 step-next-requires-clause-inside g c = inside_list c.args.table.now c.args.cursor.list c.args.cursor.place c.requires.inside
+
+pub cut-requires-clause-inside : goal.cut-requires-clause-inside
+cut-requires-clause-inside g c =
+    let t = c.args.table.now in
+    let T = c.match-look.table in
+    let r = c.args.cursor.list in
+    let kept : T.links ≡ t.links = elim c.match-look.branch [ in-Some w ↦ ap (λ x. x.links) w.table-is ∙ w.write-written.ensures.links | in_default w ↦ ap (λ x. x.links) w.table-is ] in
+    omega (arith, c.requires.inside, chain_len t r, chain_len T r, ap (λ l. length (list l r)) kept)
 
 pub returns-clause-joined : goal.returns-clause-joined
 unfolding capacity

@@ -1,6 +1,4 @@
-use Rattle.std.proofs.Common.{sym, ap, ◌∙◌}
-use Rattle.std.specs.List.{slice_get}
-use Rattle.links.specs.declared.cursor.Cursor.{Cursor}
+use Rattle.std.proofs.Common.{sym}
 use Rattle.links.proofs.Places.{slice_get_inside}
 use Rattle.version_table.specs.Chains.{chain}
 use Rattle.version_table.proofs.Cursors.{inside_list}

@@ -1,8 +1,7 @@
-use Rattle.std.proofs.Common.{sym, refl, ◌∙◌, arith}
+use Rattle.std.proofs.Common.{arith}
 use Rattle.std.proofs.lemmas.List.{length-set}
 use Rattle.links.specs.Meaning.{slots, size}
 use Rattle.links.proofs.Steps.{row_in, give_in, give_read}
-use Rattle.links.proofs.Ways.{from_none}
 use Rattle.links.proofs.Places.{front}
 use Rattle.links.proofs.table.Links.give.Goals as goal
 
@@ -23,9 +22,6 @@ invariant_of-self c =
     let f = front c.args.self.now c.args.r c.in_ok-s.s c.in_ok-s.ensures.head in
     let k = give_read c.args.self.now c.args.r c.in_ok-s.s c.index.result.now f.row f.head c.index.ensures in
     record { sound = k.sound; counted = k.counted }
-
-pub returns-in_err-s : goal.returns-in_err-s
-returns-in_err-s c = record { size = refl; given = rw c.from_residual.ensures (refl, sym c.in_err-s.ensures.list ∙ from_none c.args.self.now) }
 
 pub returns : goal.returns
 unfolding slots size
