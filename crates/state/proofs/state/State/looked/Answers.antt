@@ -4,7 +4,7 @@ use Rattle.state.specs.Stored.{stored}
 use Rattle.history.specs.Model.{looks, reading, new_stored, free_stored}
 use Rattle.state.proofs.Views.{in_records, view_at}
 use Rattle.state.proofs.Writes.{there, owns, owns_is, own_yes, own_no}
-use Rattle.state.proofs.state.State.looked.Goals.{in_default-via-in-Some+else-v-w, in_default-via-in-None}
+use Rattle.state.proofs.state.State.looked.Goals.{in_default-via-in-Some+else-v-w, in_default-via-in_default}
 use Rattle.state.proofs.state.State.looked.Goals as goal
 
 pub index-entry-requires : goal.index-entry-requires
@@ -35,6 +35,6 @@ returns-in_default g c =
     let other : owns w x.holder ≡ false =
     elim c.in_default.branch [
       | in_default-via-in-Some+else-v-w u ↦ own_no w u.in-Some.v x.holder u.in-Some.is u.if-v-w.false
-      | in_default-via-in-None u ↦ ap (owns w) u.in_default.is
+      | in_default-via-in_default u ↦ ap (owns w) u.in_default.is
     ] in
     c.reading.ensures ∙ ap (λ z. reading k z w) y ∙ sym (ap (λ z. looks k z w) y ∙ ap (λ z. cond z x.row (reading k (stored x L) w)) (owns_is w x.holder L b ∙ other))
