@@ -1,5 +1,5 @@
 -- A journal that is performed turn by turn keeps the tie between the store and the history; and what was written can be cut back out of the list.
-use Rattle.std.proofs.Common.{◌≡◌, ℕ, zero, suc, ◌+◌, ◌-◌, ◌<◌, ◌≤◌, ltb, leb, List, [], ◌∷◌, ◌++◌, map, length, get_or, take, drop, set, Some, None, Option, sym, refl, ap, ◌∙◌, subst, subst₂, append_assoc, arith, length-append, length-set}
+use Rattle.std.proofs.Common.{◌≡◌, ℕ, ◌+◌, ◌-◌, ◌<◌, ◌≤◌, ltb, leb, List, [], ◌∷◌, ◌++◌, map, length, get_or, take, drop, set, Some, None, Option, sym, refl, ap, ◌∙◌, subst, subst₂, append_assoc, arith, length-append, length-set}
 use borrow.Rule.Slice.PartMut.{put_mid}
 use lib.ListN.{length-replicate}
 use Rattle.std.specs.List.{flat_map}
