@@ -6,6 +6,7 @@
 use Rattle.std.proofs.Common.{◌≡◌, ℕ, zero, suc, ◌+◌, ◌<◌, ◌≤◌, Bool, true, false, cond, not, ◌&&◌, eqb, ltb, leb, ◌⊎◌, List, [], ◌∷◌, ◌++◌, map, length, None, Option, sym, refl, ap, ◌∙◌, subst, inl, inr, true≢false, arith}
 use mathlib.Core.Bool.{false≢true}
 use Rattle.std.proofs.lemmas.Bool.{and_parts, and_from, leb-true, leb-false, ltb-true, ltb-false, eqb-true, eqb-false, le-leb, lt-ltb, eq-eqb, ne_eqb}
+use Rattle.std.proofs.lemmas.Simd.{map-map}
 use Rattle.kind.specs.Kinds.{Ops, Laws}
 use Rattle.lease.specs.Times.{count, insert, delete, opens}
 use Rattle.chain.specs.Versions.{Open}
@@ -236,15 +237,11 @@ module _ {Row Edit Change : Type 0} (k : Ops Row Edit Change) where
             fits = omega (arith, z.fits, map_cost k (pruned k fewer) (pruned_cost k fewer) m.records);
           }
 
-      map-map : {A B C : Type 0} (f : B → C) (g : A → B) (xs : List A) → map (λ x. f (g x)) xs ≡ map f (map g xs)
-      map-map f g [] = refl
-      map-map f g (x ∷ xs) = ap (λ ys. f (g x) ∷ ys) (map-map f g xs)
-
       commits : (w : ℕ) → Sim room (all_pruned k (opens (delete w ls)) (record { clock = m.clock + 1; room = m.room; records = map (finish_stored k w (m.clock + 1)) m.records })) (delete w ls) (map (finish_record k w (m.clock + 1)) fs)
       commits w =
           let fewer = opens (delete w ls) in
           let both : Stored Row Change → Stored Row Change = λ x. pruned k fewer (finish_stored k w (m.clock + 1) x) in
-          let split = map-map (pruned k fewer) (finish_stored k w (m.clock + 1)) m.records in
+          let split = sym (map-map (pruned k fewer) (finish_stored k w (m.clock + 1)) m.records) in
           record {
             table = z.table;
             low = λ u o. omega (arith, z.low u (delete_sub w ls u o));
@@ -258,7 +255,7 @@ module _ {Row Edit Change : Type 0} (k : Ops Row Edit Change) where
       abandons w =
           let fewer = opens (delete w ls) in
           let both : Stored Row Change → Stored Row Change = λ x. pruned k fewer (free_stored k w x) in
-          let split = map-map (pruned k fewer) (free_stored k w) m.records in
+          let split = sym (map-map (pruned k fewer) (free_stored k w) m.records) in
           record {
             table = z.table;
             low = λ u o. z.low u (delete_sub w ls u o);

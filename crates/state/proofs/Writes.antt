@@ -2,7 +2,7 @@
 use Rattle.std.proofs.Common.{◌≡◌, ℕ, zero, suc, ◌+◌, ◌<◌, ◌≤◌, Bool, true, false, cond, eqb, List, [], ◌∷◌, length, get_or, drop, set, Some, None, vec_items, count_by, Option, sym, refl, ap, ◌∙◌, add-one, arith}
 use mathlib.Core.Bool.{false≢true}
 use Rattle.std.specs.Option.{option_eq}
-use Rattle.std.proofs.lemmas.Bool.{and_parts}
+use Rattle.std.proofs.lemmas.Bool.{and_parts, eq-eqb, ne_eqb}
 use Rattle.std.proofs.lemmas.Bool.Decides.{nat_tests}
 use Rattle.std.proofs.lemmas.List.Sums.{sum_by-cons}
 use Rattle.kind.specs.declared.Kind.{Ghosts}
@@ -62,6 +62,12 @@ pub owns_who : {C : Type 0} (w : ℕ) (o : Option ℕ) (c : List (Version C)) �
 owns_who w None c b = refl
 owns_who w (Some v) [] b = absurd (false≢true b)
 owns_who w (Some v) (u ∷ c) b = eqb-swap v w
+
+pub own_yes : (w v : ℕ) (o : Option ℕ) → o ≡ Some v → v ≡ w → owns w o ≡ true
+own_yes w v o e q = ap (owns w) e ∙ eq-eqb v w q
+
+pub own_no : (w v : ℕ) (o : Option ℕ) → o ≡ Some v → (v ≡ w → ⊥) → owns w o ≡ false
+own_no w v o e n = ap (owns w) e ∙ ne_eqb v w n
 
 module _ {Row Edit C : Type 0} (k : Ops Row Edit C) (w : ℕ) where
   pub finish_one : (t : ℕ) (x : Entry Row) (c : List (Version C)) → owns w x.holder ≡ true → backed x.holder c ≡ true → stored (record { row = x.row; last = t; holder = None }) (stamped t c) ≡ finish_stored k w t (stored x c)

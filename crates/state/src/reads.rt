@@ -48,9 +48,9 @@ impl<K: Kind> State<K> {
         ensures { result ≡ looks K.ops (record_at K.ops (view self.now) i) w }
     {
         let entry = self.records[i];
-        if entry.holder == Some(w) {
-            return entry.row;
+        match entry.holder {
+            Some(v) if v == w => entry.row,
+            _ => self.reading(i, w),
         }
-        self.reading(i, w)
     }
 }

@@ -1,4 +1,4 @@
-use Rattle.std.proofs.Common.{◌≡◌, false, ◌≤◌, cond, Some, None, sym, refl, ap, ◌∙◌, arith}
+use Rattle.std.proofs.Common.{◌≡◌, false, cond, Some, None, sym, ap, ◌∙◌, arith}
 use Rattle.history.specs.Card.{versions_used}
 use Rattle.state.specs.View.{Owned}
 use Rattle.state.proofs.Views.{in_records, by_other_of}

@@ -1,6 +1,6 @@
 use Rattle.std.proofs.Common.{◌≡◌, ◌<◌, ◌≤◌, length, get_or, vec_items, sym, ap, ◌∙◌, arith, rules}
 use Rattle.std.proofs.lemmas.List.{length-take-le, length-set}
-use Rattle.state.proofs.Fresh.{rows_mine, view_held, number_held, turn_yes, turn_no, turn_fits, turns_end, behind_write}
+use Rattle.state.proofs.Fresh.{view_held, number_held, turn_yes, turn_no, turn_fits, turns_end, behind_write}
 use Rattle.state.proofs.state.State.write_held.Goals.{then-eq, else-eq}
 use Rattle.state.proofs.state.State.write_held.Goals as goal
 
