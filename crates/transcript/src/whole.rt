@@ -18,7 +18,7 @@ use tallies::Tallies;
 // The most bytes of a script.
 const LONGEST: usize = 65536;
 
-// Runs the lines behind the first, over the kind and the registry that it asked for.
+// Runs the lines behind the first, over the kind and the registry that it asked for: the letters pick types, so each pair has its arm.
 fn run_opened(
     heap: Global,
     opening: Opening,
