@@ -15,7 +15,7 @@ pub type Lease = Token<Report>;
 pub type Writer = Token<Writing>;
 
 // A token for one open lease. It may be let go only once it is spent: by the call that uses it up,
-// or by writing it down.
+// or by writing it down. Spent is a flag by rule: the drop below is allowed only where it is set.
 pub struct Token<Use> {
     time: u32,
     spent: bool,

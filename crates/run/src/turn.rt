@@ -11,7 +11,8 @@ pub struct Turn<E, R> {
 }
 
 impl<E: Copy, R: Copy> Turn<E, R> {
-    // A turn that is still to be performed.
+    // A turn that is still to be performed. Its outcome is Closed until then: with an Option in its place every reader of
+    // a performed journal would open what always stands.
     pub fn of(call: Call<E>) -> Turn<E, R>
         ensures { result ≡ record { call = call; outcome = Outcome.Closed } }
     {

@@ -1,4 +1,4 @@
-// Passes over the slots: counting, the least time, and finding a slot.
+// Passes over the slots: counting, the least time, and finding a slot. By rule the counts and the least time are loops over the slots.
 ghost use Rattle.std.specs.Prelude.{◌≡◌, length};
 ghost use Rattle.lease.specs.Times.{count, least};
 ghost use Rattle.slot_table.specs.Slots.{taken, Free, Holding};

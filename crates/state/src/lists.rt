@@ -21,7 +21,7 @@ impl<K: Kind> State<K> {
         write_times(versions, out)
     }
 
-    // Writes the records that the writer w holds at the front of a list, and answers how many.
+    // Writes the records that the writer w holds at the front of a list, and answers how many: the place to write at is the count so far.
     pub fn write_held(&self, w: u32, out: &mut [u32]) -> usize
         requires { held_number w (view self.now) ≤ length out.old }
         ensures number { result ≡ held_number w (view self.now) }
