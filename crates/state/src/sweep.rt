@@ -9,7 +9,8 @@ use lease::registry::Registry;
 use version_table::prune::{prune_behind, prune_chain};
 
 impl<K: Kind> State<K> {
-    // Prunes every chain.
+    // Prunes every chain. By index: with the entries borrowed for the loop the state would stand open in it, and a proof that carries
+    // the state's facts through the loop in pieces was tried and did not close.
     pub fn prune_all<R: Registry>(&mut self, registry: &R)
         ensures { view self.new ≡ all_pruned K.ops (opens (R.leases registry.now)) (view self.old) }
     {
