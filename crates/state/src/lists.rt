@@ -28,6 +28,7 @@ impl<K: Kind> State<K> {
         ensures front { take result out.new ≡ held_from w 0 (owners (view self.now).records) }
         ensures rest { drop result out.new ≡ drop result out.old }
     {
+        // Written by index: the contract speaks of each number in its place.
         let mut n = 0;
         for (i, entry) in self.records.iter().enumerate() {
             if entry.holder == Some(w) {
