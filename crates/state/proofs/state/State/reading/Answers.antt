@@ -4,7 +4,7 @@ use Rattle.version_table.specs.Chains.{chain}
 use Rattle.state.specs.Stored.{behind, stored}
 use Rattle.history.specs.Model.{reading, new_stored}
 use Rattle.state.proofs.Views.{in_records, view_at, read_free, read_held, read_bare}
-use Rattle.state.proofs.Fresh.{behind_none, behind_some, first_taken}
+use Rattle.state.proofs.Fresh.{behind_none, behind_some}
 use Rattle.state.proofs.Order.{chain_falls}
 use Rattle.state.proofs.state.State.reading.Goals.{in-None, in-Some+in-None-next, in-Some+in-Some-next}
 use Rattle.state.proofs.state.State.reading.Goals as goal
