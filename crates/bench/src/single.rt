@@ -50,7 +50,7 @@ fn take_answer<K: Subject>(tally: &mut Tally, outcome: Outcome<K::Row>, written:
             tally.take_times(written);
         }
         Outcome::InUse(n) => tally.used(n),
-        Outcome::Closed | Outcome::Changed | Outcome::Refused(_, _, _) => {}
+        Outcome::Closed | Outcome::Changed | Outcome::Refused(_) => {}
     }
 }
 
@@ -62,7 +62,7 @@ fn take_outcome<K: Subject>(
     written: &[u32],
 ) {
     match outcome {
-        Outcome::Refused(number, layer, place) => tally.refuse(sort, number, layer, place),
+        Outcome::Refused(fault) => tally.refuse(sort, fault),
         _ => {
             tally.accept(sort);
             take_answer::<K>(tally, outcome, written);

@@ -118,26 +118,27 @@ impl Tally {
         self.take(sort as u64);
     }
 
-    // A call was refused, with this number, layer and place.
-    pub(crate) fn refuse(&mut self, sort: Sort, number: u8, layer: Layer, place: u64) {
+    // A call was refused: its number, layer and place are taken in.
+    pub(crate) fn refuse(&mut self, sort: Sort, fault: StoreFault) {
+        let number = fault.number();
         self.count(sort);
         if let Some(n) = self.refused.get_mut(usize::from(number)) {
             *n = n.wrapping_add(1);
         }
         self.take(100 + u64::from(number));
-        self.take(match layer {
+        self.take(match fault.layer() {
             Layer::Registry => 1,
             Layer::Store => 2,
             Layer::Script => 3,
         });
-        self.take(place);
+        self.take(fault.place);
     }
 
     // A call that answers nothing more was accepted or refused.
     pub(crate) fn settle(&mut self, sort: Sort, done: Result<(), StoreFault>) {
         match done {
             Ok(()) => self.accept(sort),
-            Err(fault) => self.refuse(sort, fault.number(), fault.layer(), fault.place),
+            Err(fault) => self.refuse(sort, fault),
         }
     }
 

@@ -10,7 +10,7 @@ use kind::Kind;
 pub const ATTRIBUTES: usize = 8;
 
 // The eight attributes of a record.
-#[derive(Clone, Copy)]
+#[derive(Clone, Copy, Default, PartialEq, Eq, Debug)]
 pub struct Attributes {
     pub values: [u32; ATTRIBUTES],
 }

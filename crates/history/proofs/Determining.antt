@@ -3,12 +3,13 @@ use Rattle.std.proofs.Common.{◌≡◌, ℕ, ◌<◌, List, [], ◌∷◌, leng
 use mathlib.Core.Path.{fun_ext}
 use Rattle.kind.specs.Kinds.{Ops}
 use Rattle.lease.specs.Times.{opens}
-use Rattle.lease.specs.declared.fault.Layer.{Layer}
 use Rattle.chain.specs.declared.version.Version.{Version}
 use Rattle.history.specs.declared.call.Call.{Call}
 use Rattle.history.specs.declared.call.Call.TheVariants.{Open as call_open, Read as call_read, Close as call_close, Begin as call_begin, Look as call_look, Change as call_change, Commit as call_commit, Abandon as call_abandon, Held as call_held, Kept as call_kept, InUse as call_in_use}
 use Rattle.history.specs.declared.call.Outcome.{Outcome}
 use Rattle.history.specs.declared.call.Outcome.TheVariants.{Kept, InUse, Refused}
+use Rattle.history.specs.declared.fault.StoreFault.{StoreFault}
+use Rattle.history.specs.Card.{list_short}
 use Rattle.history.specs.History.{History, Record, record_of}
 use Rattle.history.specs.Law.{Told, plain, times, Check, refuses, passes, Says, Shows, Keeps, Holds, Uses, Answers, Run}
 use Rattle.history.specs.Determined.{Sense, held_counts, sense, Determined}
@@ -23,7 +24,7 @@ module _ {Row Edit Change : Type 0} (k : Ops Row Edit Change) where
   says_one a b = record { tells = ap (sense k) (a.0 ∙ sym b.0); ends = a.1 ∙ sym b.1 }
 
   module _ {h : History Row} {o p : Told Row} {h₁ h₂ : History Row} where
-    both : {F : Type 0} {n : ℕ} {l : Layer} {q : ℕ} {P : Told Row → History Row → Type 0} → Check h F n l q P o h₁ → Check h F n l q P p h₂ → (P o h₁ → P p h₂ → Agree o h₁ p h₂) → Agree o h₁ p h₂
+    both : {F : Type 0} {z : StoreFault} {P : Told Row → History Row → Type 0} → Check h F z P o h₁ → Check h F z P p h₂ → (P o h₁ → P p h₂ → Agree o h₁ p h₂) → Agree o h₁ p h₂
     both (refuses f e s) (refuses g d t) next = record { tells = ap (sense k) (e ∙ sym d); ends = s ∙ sym t }
     both (refuses f e s) (passes n r) next = absurd (n f)
     both (passes n r) (refuses g d t) next = absurd (n g)
@@ -50,8 +51,8 @@ module _ {Row Edit Change : Type 0} (k : Ops Row Edit Change) where
         KeptAs : List (Version Change) → Told Row → History Row → Type 0
         KeptAs vs q h'' = (q ≡ record { outcome = Kept (length vs); written = times vs }) × (h'' ≡ h)
 
-        go : Check h (given < length a.0) 10 Layer.Store (length a.0) (KeptAs a.0) o h₁ → Check h (given < length b.0) 10 Layer.Store (length b.0) (KeptAs b.0) p h₂ → Agree o h₁ p h₂
-        go (refuses f e s) (refuses g d t) = record { tells = ap (sense k) (e ∙ ap (λ n. plain (Refused 10 Layer.Store n)) same ∙ sym d); ends = s ∙ sym t }
+        go : Check h (given < length a.0) (list_short (length a.0)) (KeptAs a.0) o h₁ → Check h (given < length b.0) (list_short (length b.0)) (KeptAs b.0) p h₂ → Agree o h₁ p h₂
+        go (refuses f e s) (refuses g d t) = record { tells = ap (sense k) (e ∙ ap (λ n. plain (Refused (list_short n))) same ∙ sym d); ends = s ∙ sym t }
         go (refuses f e s) (passes n r) = absurd (n (omega (arith, same)))
         go (passes n r) (refuses g d t) = absurd (n (omega (arith, same)))
         go (passes n r) (passes m t) = record { tells = ap (sense k) r.0 ∙ ap (λ n. Sense.other (Kept n)) same ∙ sym (ap (sense k) t.0); ends = r.1 ∙ sym t.1 }

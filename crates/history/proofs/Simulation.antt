@@ -6,20 +6,19 @@
 use Rattle.std.proofs.Common.{◌≡◌, ℕ, zero, suc, ◌+◌, ◌<◌, ◌≤◌, Bool, true, false, cond, not, ◌&&◌, eqb, ltb, leb, ◌⊎◌, List, [], ◌∷◌, ◌++◌, map, length, None, Option, sym, refl, ap, ◌∙◌, subst, inl, inr, true≢false, arith}
 use mathlib.Core.Bool.{false≢true}
 use Rattle.std.proofs.lemmas.Bool.{and_parts, and_from, leb-true, leb-false, ltb-true, ltb-false, eqb-true, eqb-false, le-leb, lt-ltb, eq-eqb, ne_eqb}
+use Rattle.std.proofs.lemmas.Simd.{map-map}
 use Rattle.kind.specs.Kinds.{Ops, Laws}
 use Rattle.lease.specs.Times.{count, insert, delete, opens}
-use Rattle.lease.specs.declared.fault.Layer.{Layer}
 use Rattle.chain.specs.Versions.{Open}
 use Rattle.chain.specs.RecordLaw.{Right}
 use Rattle.history.specs.declared.call.Call.{Call}
 use Rattle.history.specs.declared.call.Call.TheVariants.{Open as call_open, Read as call_read, Close as call_close, Begin as call_begin, Look as call_look, Change as call_change, Commit as call_commit, Abandon as call_abandon, Held as call_held, Kept as call_kept, InUse as call_in_use}
 use Rattle.history.specs.declared.call.Outcome.TheVariants.{Shown, Committed, Abandoned, Held, Kept, InUse}
 use Rattle.history.specs.declared.fault.StoreFault.{StoreFault}
-use Rattle.history.specs.declared.fault.StoreCause.TheVariants.{HeldByOther, RowNewer, VersionsUsed}
-use Rattle.history.specs.Card.{fault_number, fault_layer}
+use Rattle.history.specs.Card.{no_record, no_lease, held_by_other, row_newer, versions_used, leases_used, clock_limit, list_short}
 use Rattle.history.specs.History.{Hold, free, held, Record, History, limit, who, held_by, count_held, at_or, change_at, holders, new_record, new_history, record_of, past, sees_under, change_record, finish_record, free_record}
 use Rattle.history.specs.Law.{Told, Asked, plain, Free, ByOther, is_held, times, EachHeld, Says, Check, refuses, passes, NoSuchRecord, NoLeaseOpen, LeasesFull, TooShort, Needed, none_needed, more_needed, Keeps, Answers, Run, AllRight, Law}
-use Rattle.history.specs.Model.{Stored, Model, Step, by_other, is_free, in_use, owners, held_number, held_from, kept_chains, or_else, no_record, no_lease, leases_used, clock_limit, list_short, new_stored, new_model, record_at, finished_row, reading, looks, pruned, change_stored, finish_stored, free_stored, all_pruned, committed, does, decide, ends, step, outcomes, model_after, leases_after, ModelLawful}
+use Rattle.history.specs.Model.{Stored, Model, Step, by_other, is_free, in_use, owners, held_number, held_from, kept_chains, or_else, new_stored, new_model, record_at, finished_row, reading, looks, pruned, change_stored, finish_stored, free_stored, all_pruned, committed, does, decide, ends, step, outcomes, model_after, leases_after, ModelLawful}
 use Rattle.history.proofs.Counts.{insert_cases, insert-keeps, delete_sub, held_length, held_once}
 use Rattle.history.proofs.Rights.{right_row}
 use Rattle.history.proofs.Room.{map_cost, pruned_cost, finish_cost, free_cost, change_cost, new_empty, needed_one}
@@ -183,7 +182,7 @@ module _ {Row Edit Change : Type 0} (k : Ops Row Edit Change) where
       stays o p = record { records = fs; fact = p; sim = z }
 
       -- a check of the law and one of the model
-      checked : {F : Type 0} {P : Told Row → History Row → Type 0} {st : Step Row Change} {o : Option StoreFault} (f : StoreFault) (b : Bool) → (b ≡ true → F) → (b ≡ false → F → ⊥) → (b ≡ false → Decided room P m ls o st) → Decided room (Check (hist m ls fs) F (fault_number f.cause) (fault_layer f.cause) f.place P) m ls (or_else b f o) st
+      checked : {F : Type 0} {P : Told Row → History Row → Type 0} {st : Step Row Change} {o : Option StoreFault} (f : StoreFault) (b : Bool) → (b ≡ true → F) → (b ≡ false → F → ⊥) → (b ≡ false → Decided room P m ls o st) → Decided room (Check (hist m ls fs) F f P) m ls (or_else b f o) st
       checked f true fails holds rest = record { met = record { records = fs; fact = refuses (fails refl) refl refl; sim = z } }
       checked f false fails holds rest = let r = (rest refl).met in record { met = record { records = r.records; fact = passes (holds refl) r.fact; sim = r.sim } }
 
@@ -238,15 +237,11 @@ module _ {Row Edit Change : Type 0} (k : Ops Row Edit Change) where
             fits = omega (arith, z.fits, map_cost k (pruned k fewer) (pruned_cost k fewer) m.records);
           }
 
-      map-map : {A B C : Type 0} (f : B → C) (g : A → B) (xs : List A) → map (λ x. f (g x)) xs ≡ map f (map g xs)
-      map-map f g [] = refl
-      map-map f g (x ∷ xs) = ap (λ ys. f (g x) ∷ ys) (map-map f g xs)
-
       commits : (w : ℕ) → Sim room (all_pruned k (opens (delete w ls)) (record { clock = m.clock + 1; room = m.room; records = map (finish_stored k w (m.clock + 1)) m.records })) (delete w ls) (map (finish_record k w (m.clock + 1)) fs)
       commits w =
           let fewer = opens (delete w ls) in
           let both : Stored Row Change → Stored Row Change = λ x. pruned k fewer (finish_stored k w (m.clock + 1) x) in
-          let split = map-map (pruned k fewer) (finish_stored k w (m.clock + 1)) m.records in
+          let split = sym (map-map (pruned k fewer) (finish_stored k w (m.clock + 1)) m.records) in
           record {
             table = z.table;
             low = λ u o. omega (arith, z.low u (delete_sub w ls u o));
@@ -260,7 +255,7 @@ module _ {Row Edit Change : Type 0} (k : Ops Row Edit Change) where
       abandons w =
           let fewer = opens (delete w ls) in
           let both : Stored Row Change → Stored Row Change = λ x. pruned k fewer (free_stored k w x) in
-          let split = map-map (pruned k fewer) (free_stored k w) m.records in
+          let split = sym (map-map (pruned k fewer) (free_stored k w) m.records) in
           record {
             table = z.table;
             low = λ u o. z.low u (delete_sub w ls u o);
@@ -295,9 +290,9 @@ module _ {Row Edit Change : Type 0} (k : Ops Row Edit Change) where
           (record_check i (λ h. lease_check w (λ o. accepted (stays (plain (Shown (looks k (record_at k m i) w))) (looks k (record_at k m i) w, refl, looks_alike (opens ls) m.clock w _ (record_at k m i) o (tied_at i h), refl))))).met
       step_lawful n (call_change w i e) =
           (record_check i (λ h. lease_check w (λ o.
-          checked (record { cause = HeldByOther; place = i }) (by_other w (record_at k m i).holder) (other_yes (record_at k m i).place w _ (record_at k m i).holder (tied_at i h).holds) (other_no (record_at k m i).place w _ (record_at k m i).holder (tied_at i h).holds) (λ _.
-          checked (record { cause = RowNewer; place = i }) (ltb w (record_at k m i).last) (λ b. omega (arith, ltb-true w (record_at k m i).last b, (tied_at i h).last)) (λ b. λ (f : w < (record_of k (hist m ls fs) i).newest.time). omega (arith, f, ltb-false w (record_at k m i).last b, (tied_at i h).last)) (λ _.
-          checked (record { cause = VersionsUsed; place = i }) (is_free (record_at k m i).holder && leb m.room (in_use m.records)) (yes_seven h) (no_seven h) (λ b.
+          checked (held_by_other i) (by_other w (record_at k m i).holder) (other_yes (record_at k m i).place w _ (record_at k m i).holder (tied_at i h).holds) (other_no (record_at k m i).place w _ (record_at k m i).holder (tied_at i h).holds) (λ _.
+          checked (row_newer i) (ltb w (record_at k m i).last) (λ b. omega (arith, ltb-true w (record_at k m i).last b, (tied_at i h).last)) (λ b. λ (f : w < (record_of k (hist m ls fs) i).newest.time). omega (arith, f, ltb-false w (record_at k m i).last b, (tied_at i h).last)) (λ _.
+          checked (versions_used i) (is_free (record_at k m i).holder && leb m.room (in_use m.records)) (yes_seven h) (no_seven h) (λ b.
           accepted (record { records = change_at (change_record k w e) fs i; fact = (refl, refl); sim = changes w i e b }))))))).met
         where
           yes_seven : i < length m.records → (is_free (record_at k m i).holder && leb m.room (in_use m.records)) ≡ true → Free (record_of k (hist m ls fs) i).holder × Needed k (opens ls) fs room
@@ -331,7 +326,7 @@ module _ {Row Edit Change : Type 0} (k : Ops Row Edit Change) where
           done = ends k (plain (Committed (committed k w m).clock (held_number w m))) w (committed k w m) ls
 
           Goal : List (Hold (Unit {0})) → Type 0
-          Goal hs = Decided room (Check (hist m ls fs) ((0 < count_held w hs) × (m.clock ≡ limit)) 9 Layer.Store m.clock (Says (Committed (result hs).clock (count_held w hs)) (result hs))) m ls (or_else (ltb 0 (held_number w m) && eqb m.clock limit) (clock_limit m.clock) None) done
+          Goal hs = Decided room (Check (hist m ls fs) ((0 < count_held w hs) × (m.clock ≡ limit)) (clock_limit m.clock) (Says (Committed (result hs).clock (count_held w hs)) (result hs))) m ls (or_else (ltb 0 (held_number w m) && eqb m.clock limit) (clock_limit m.clock) None) done
 
           go : (a : Bool) → Met room (Says (Committed (cond {A = History Row} a grown same).clock (count_held w hs)) (cond a grown same)) (ends k (plain (Committed (cond {A = Model Row Change} a next m).clock (held_number w m))) w (cond a next m) ls)
           go true = record { records = map (finish_record k w (m.clock + 1)) fs; fact = (refl, refl); sim = commits w }

@@ -1,9 +1,10 @@
 -- The wrong stores fall: the model says something else, and the law determines what is said.
-use Rattle.std.proofs.Common.{◌≡◌, ℕ, List, [], ◌∷◌, map, Some, None, Option, refl, ap, arith}
+use Rattle.std.proofs.Common.{◌≡◌, ℕ, ◌+◌, List, [], ◌∷◌, map, Some, None, Option, refl, ap, arith}
 use Rattle.kind.specs.Kinds.{Laws, same}
 use Rattle.history.specs.declared.call.Call.{Call}
 use Rattle.history.specs.declared.call.Outcome.{Outcome}
 use Rattle.history.specs.declared.call.Outcome.TheVariants.{Opened, Shown, Closed, Began, Changed, Committed, Abandoned, Held, Kept, InUse, Refused}
+use Rattle.history.specs.Card.{fault_number}
 use Rattle.history.specs.History.{new_history, at_or}
 use Rattle.history.specs.Law.{Told}
 use Rattle.history.specs.Model.{new_model, outcomes}
@@ -29,7 +30,7 @@ of_other (Abandoned n) = 0
 of_other (Held n) = 0
 of_other (Kept n) = n
 of_other (InUse n) = n
-of_other (Refused n l p) = n
+of_other (Refused f) = fault_number f.cause + 1
 
 abbrev number : Sense → ℕ
 number (row ns) = of_row ns
@@ -64,11 +65,11 @@ wrong_stores = record {
   invents_the_number = refute 2 4 (λ e. let z : ◌≡◌ {A = ℕ} 1 2 = e in omega arith);
   newest_rows_only = refute 2 4 (λ e. let z : ◌≡◌ {A = ℕ} 0 5 = e in omega arith);
   never_asks_the_registry = refute 2 4 (λ e. let z : ◌≡◌ {A = ℕ} 1 0 = e in omega arith);
-  reads_without_a_lease = refute 2 0 (λ e. let z : ◌≡◌ {A = ℕ} 4 0 = e in omega arith);
-  seven_too_soon = refute 1 1 (λ e. let z : ◌≡◌ {A = ℕ} 0 7 = e in omega arith);
-  seven_too_late = refute 0 1 (λ e. let z : ◌≡◌ {A = ℕ} 7 0 = e in omega arith);
-  never_again = refute 1 4 (λ e. let z : ◌≡◌ {A = ℕ} 0 7 = e in omega arith);
-  refuses_always = refute 2 0 (λ e. let z : ◌≡◌ {A = ℕ} 0 8 = e in omega arith);
+  reads_without_a_lease = refute 2 0 (λ e. let z : ◌≡◌ {A = ℕ} 5 0 = e in omega arith);
+  seven_too_soon = refute 1 1 (λ e. let z : ◌≡◌ {A = ℕ} 0 8 = e in omega arith);
+  seven_too_late = refute 0 1 (λ e. let z : ◌≡◌ {A = ℕ} 8 0 = e in omega arith);
+  never_again = refute 1 4 (λ e. let z : ◌≡◌ {A = ℕ} 0 8 = e in omega arith);
+  refuses_always = λ f. refute 2 0 (λ e. let z : ◌≡◌ {A = ℕ} 0 (fault_number f.cause + 1) = e in omega arith);
   does_nothing = refute 2 2 (λ e. let z : ◌≡◌ {A = ℕ} 5 0 = e in omega arith);
   one_row_always = refute 2 5 (λ e. let z : ◌≡◌ {A = ℕ} 0 5 = e in omega arith);
   says_less = record { never = λ h r. r.2 };

@@ -11,7 +11,7 @@ use Rattle.std.specs.Prelude.{ℕ}
 use Rattle.lease.specs.declared.fault.Layer.{Layer}
 use Rattle.lease.specs.declared.fault.Layer.TheVariants.{Store}
 use Rattle.lease.specs.declared.fault.RegistryFault.{RegistryFault}
-use Rattle.lease.specs.Card.{cause_number, cause_layer}
+use Rattle.lease.specs.Card.{cause_number, cause_layer, none_open, full}
 use Rattle.history.specs.declared.fault.StoreCause.{StoreCause}
 use Rattle.history.specs.declared.fault.StoreCause.TheVariants.{TableSize, StartHigh, NoRecord, HeldByOther, RowNewer, VersionsUsed, ClockLimit, ListShort, FromRegistry}
 use Rattle.history.specs.declared.fault.StoreFault.{StoreFault}
@@ -41,3 +41,28 @@ fault_layer (FromRegistry f) = cause_layer f.cause
 -- a registry's fault comes up whole
 abbrev pub raised : RegistryFault → StoreFault
 raised f = record { cause = FromRegistry f; place = f.place }
+
+-- each refusal by its words
+abbrev pub no_record : ℕ → StoreFault
+no_record i = record { cause = NoRecord; place = i }
+
+abbrev pub no_lease : ℕ → StoreFault
+no_lease t = raised (none_open t)
+
+abbrev pub held_by_other : ℕ → StoreFault
+held_by_other i = record { cause = HeldByOther; place = i }
+
+abbrev pub row_newer : ℕ → StoreFault
+row_newer i = record { cause = RowNewer; place = i }
+
+abbrev pub versions_used : ℕ → StoreFault
+versions_used i = record { cause = VersionsUsed; place = i }
+
+abbrev pub leases_used : ℕ → StoreFault
+leases_used cap = raised (full cap)
+
+abbrev pub clock_limit : ℕ → StoreFault
+clock_limit t = record { cause = ClockLimit; place = t }
+
+abbrev pub list_short : ℕ → StoreFault
+list_short n = record { cause = ListShort; place = n }

@@ -27,7 +27,7 @@ module _ {Row Edit Change : Type 0} (k : Ops Row Edit Change) where
   sense_of (Held n) ws = held_counts n (λ i. count i ws)
   sense_of (Kept n) ws = other (Kept n)
   sense_of (InUse n) ws = other (InUse n)
-  sense_of (Refused n l p) ws = other (Refused n l p)
+  sense_of (Refused f) ws = other (Refused f)
 
   abbrev pub sense : Told Row → Sense
   sense o = sense_of o.outcome o.written

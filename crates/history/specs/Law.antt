@@ -1,8 +1,8 @@
 -- What the outcome of each call must be, said of the history alone, and the law of any run.
 --     Told Row                  an outcome, and what it wrote at the front of the given list
 --     Asked Edit                a call, and the length of the list that it was given
---     Check h fails n l p rest  the check fails, the call is refused with the number n, of the layer l, at the place p, and the history is left alone;
---                               or it does not fail, and the rest decides
+--     Check h fails f rest      the check fails, the call is refused for f, and the history is left alone; or it does not fail, and the rest decides.
+--                               The number, the layer and the place of f stand in Card
 --     Shortest os f n           n is the length of a shortest list of versions that serves the record f
 --     Needed os fs n            n is the sum of these over all records, and one more for each held record
 --     Answers h given c o h'    from the history h, the call c has the outcome o and leaves the history h'
@@ -12,8 +12,6 @@
 use Rattle.std.specs.Prelude.{◌≡◌, ℕ, ◌+◌, ◌<◌, ◌≤◌, cond, List, [], ◌∷◌, map, length}
 use Rattle.kind.specs.Kinds.{Ops}
 use Rattle.lease.specs.Times.{count, opens}
-use Rattle.lease.specs.declared.fault.Layer.{Layer}
-use Rattle.lease.specs.declared.fault.Layer.TheVariants.{Registry as layer_r, Store as layer_b}
 use Rattle.chain.specs.declared.version.Version.{Version}
 use Rattle.chain.specs.Versions.{Serves, Least}
 use Rattle.chain.specs.RecordLaw.{Right}
@@ -21,6 +19,8 @@ use Rattle.history.specs.declared.call.Call.{Call}
 use Rattle.history.specs.declared.call.Call.TheVariants.{Open as call_open, Read as call_read, Close as call_close, Begin as call_begin, Look as call_look, Change as call_change, Commit as call_commit, Abandon as call_abandon, Held as call_held, Kept as call_kept, InUse as call_in_use}
 use Rattle.history.specs.declared.call.Outcome.{Outcome}
 use Rattle.history.specs.declared.call.Outcome.TheVariants.{Opened, Shown, Closed, Began, Changed, Committed, Abandoned, Held, Kept, InUse, Refused}
+use Rattle.history.specs.declared.fault.StoreFault.{StoreFault}
+use Rattle.history.specs.Card.{no_record, no_lease, held_by_other, row_newer, versions_used, leases_used, clock_limit, list_short}
 use Rattle.history.specs.History.{Hold, free, held, Record, History, limit, held_by, count_held, at_or, holders, new_history, record_of, past, sees, opened_at, closed_at, changed_by, committed_by, abandoned_by}
 
 pub record Told (Row : Type 0) : Type 0 where
@@ -59,22 +59,26 @@ EachHeld w hs rs = (i : ℕ) → count i rs ≡ cond (held_by w (at_or free hs i
 abbrev pub Says : {Row : Type 0} → Outcome Row → History Row → Told Row → History Row → Type 0
 Says out after o h' = (o ≡ plain out) × (h' ≡ after)
 
-pub data Check {Row : Type 0} (h : History Row) (fails : Type 0) (n : ℕ) (l : Layer) (p : ℕ) (rest : Told Row → History Row → Type 0) (o : Told Row) (h' : History Row) : Type 0 where
-  refuses : fails → o ≡ plain (Refused n l p) → h' ≡ h → Check h fails n l p rest o h'
-  passes : (fails → ⊥) → rest o h' → Check h fails n l p rest o h'
+pub data Check {Row : Type 0} (h : History Row) (fails : Type 0) (f : StoreFault) (rest : Told Row → History Row → Type 0) (o : Told Row) (h' : History Row) : Type 0 where
+  refuses : fails → o ≡ plain (Refused f) → h' ≡ h → Check h fails f rest o h'
+  passes : (fails → ⊥) → rest o h' → Check h fails f rest o h'
 
 module _ {Row : Type 0} (h : History Row) where
+  -- 3
   abbrev pub NoSuchRecord : ℕ → (Told Row → History Row → Type 0) → Told Row → History Row → Type 0
-  NoSuchRecord i = Check h (length h.records ≤ i) 3 layer_b i
+  NoSuchRecord i = Check h (length h.records ≤ i) (no_record i)
 
+  -- 4
   abbrev pub NoLeaseOpen : ℕ → (Told Row → History Row → Type 0) → Told Row → History Row → Type 0
-  NoLeaseOpen t = Check h (count t h.leases ≡ 0) 4 layer_r t
+  NoLeaseOpen t = Check h (count t h.leases ≡ 0) (no_lease t)
 
+  -- 8
   abbrev pub LeasesFull : ℕ → (Told Row → History Row → Type 0) → Told Row → History Row → Type 0
-  LeasesFull cap = Check h (length h.leases ≡ cap) 8 layer_r cap
+  LeasesFull cap = Check h (length h.leases ≡ cap) (leases_used cap)
 
+  -- 10
   abbrev pub TooShort : ℕ → ℕ → (Told Row → History Row → Type 0) → Told Row → History Row → Type 0
-  TooShort given needed = Check h (given < needed) 10 layer_b needed
+  TooShort given needed = Check h (given < needed) (list_short needed)
 
 module _ {Row Edit Change : Type 0} (k : Ops Row Edit Change) where
   abbrev pub Shortest : (ℕ → ℕ) → Record Row → ℕ → Type 0
@@ -102,24 +106,24 @@ module _ {Row Edit Change : Type 0} (k : Ops Row Edit Change) where
     abbrev pub Uses : Told Row → History Row → Type 0
     Uses o h' = (n : ℕ) × Needed (opens h.leases) h.records n × (o ≡ plain (InUse n)) × (h' ≡ h)
 
-    -- cap leases and room versions are the most that can be
+    -- cap leases and room versions are the most that can be; the refusals come in the order of their numbers, but that 9 is asked before 8
     abbrev pub Answers : ℕ → ℕ → ℕ → Call Edit → Told Row → History Row → Type 0
     Answers cap room given call_open = LeasesFull h cap (Says (Opened h.clock) (opened_at k h.clock h))
     Answers cap room given (call_read t i) = NoSuchRecord h i (NoLeaseOpen h t (Shows (past k (record_of k h i) t)))
     Answers cap room given (call_close t) = NoLeaseOpen h t (Says Closed (closed_at k t h))
     Answers cap room given call_begin =
-        Check h (h.clock ≡ limit) 9 layer_b h.clock
+        Check h (h.clock ≡ limit) (clock_limit h.clock)
         (LeasesFull h cap (Says (Began (h.clock + 1)) (opened_at k (h.clock + 1) h)))
     Answers cap room given (call_look w i) = NoSuchRecord h i (NoLeaseOpen h w (Shows (sees k w (record_of k h i))))
     Answers cap room given (call_change w i e) =
         NoSuchRecord h i (NoLeaseOpen h w
-        (Check h (ByOther w (record_of k h i).holder) 5 layer_b i
-        (Check h (w < (record_of k h i).newest.time) 6 layer_b i
-        (Check h (Free (record_of k h i).holder × Needed (opens h.leases) h.records room) 7 layer_b i
+        (Check h (ByOther w (record_of k h i).holder) (held_by_other i)
+        (Check h (w < (record_of k h i).newest.time) (row_newer i)
+        (Check h (Free (record_of k h i).holder × Needed (opens h.leases) h.records room) (versions_used i)
         (Says Changed (changed_by k w i e h))))))
     Answers cap room given (call_commit w) =
         NoLeaseOpen h w
-        (Check h ((0 < count_held w (holders h.records)) × (h.clock ≡ limit)) 9 layer_b h.clock
+        (Check h ((0 < count_held w (holders h.records)) × (h.clock ≡ limit)) (clock_limit h.clock)
         (Says (Committed (committed_by k w h).clock (count_held w (holders h.records))) (committed_by k w h)))
     Answers cap room given (call_abandon w) = Says (Abandoned (count_held w (holders h.records))) (abandoned_by k w h)
     Answers cap room given (call_held w) = TooShort h given (count_held w (holders h.records)) (Holds w)

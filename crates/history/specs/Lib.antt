@@ -1,4 +1,5 @@
 pub mod Card
+pub mod Shown
 pub mod History
 pub mod Law
 pub mod Model

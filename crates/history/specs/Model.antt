@@ -10,16 +10,15 @@
 use Rattle.std.specs.Prelude.{ℕ, suc, ◌+◌, Bool, true, false, cond, not, ◌&&◌, List, [], ◌∷◌, map, length, replicate, Some, None, Option, ◌==◌, nat_le, nat_lt}
 use Rattle.kind.specs.Kinds.{Ops}
 use Rattle.lease.specs.Times.{insert, delete, count, opens}
-use Rattle.lease.specs.Card.{none_open, full}
 use Rattle.chain.specs.declared.version.Version.{Version}
 use Rattle.chain.specs.Versions.{reads}
 use Rattle.chain.specs.Pruning.{prune}
 use Rattle.history.specs.declared.call.Call.{Call}
 use Rattle.history.specs.declared.call.Call.TheVariants.{Open as call_open, Read as call_read, Close as call_close, Begin as call_begin, Look as call_look, Change as call_change, Commit as call_commit, Abandon as call_abandon, Held as call_held, Kept as call_kept, InUse as call_in_use}
 use Rattle.history.specs.declared.call.Outcome.TheVariants.{Opened, Shown, Closed, Began, Changed, Committed, Abandoned, Held, Kept, InUse, Refused}
-use Rattle.history.specs.declared.fault.StoreCause.TheVariants.{NoRecord, HeldByOther, RowNewer, VersionsUsed, ClockLimit, ListShort}
 use Rattle.history.specs.declared.fault.StoreFault.{StoreFault}
-use Rattle.history.specs.Card.{fault_number, fault_layer, raised}
+pub use Rattle.history.specs.Card.{no_record, no_lease, leases_used, clock_limit, list_short}
+use Rattle.history.specs.Card.{held_by_other, row_newer, versions_used}
 use Rattle.history.specs.History.{Hold, free, held, limit, who, held_by, count_held, at_or, change_at}
 use Rattle.history.specs.Law.{Told, Asked, plain, is_held, times, Law}
 
@@ -68,21 +67,6 @@ kept_chains xs = map (λ x. x.chain) xs
 -- the first test that fails refuses; none: accepted
 abbrev pub or_else : Bool → StoreFault → Option StoreFault → Option StoreFault
 or_else b f o = cond b (Some f) o
-
-abbrev pub no_record : ℕ → StoreFault
-no_record i = record { cause = NoRecord; place = i }
-
-abbrev pub no_lease : ℕ → StoreFault
-no_lease t = raised (none_open t)
-
-abbrev pub leases_used : ℕ → StoreFault
-leases_used cap = raised (full cap)
-
-abbrev pub clock_limit : ℕ → StoreFault
-clock_limit t = record { cause = ClockLimit; place = t }
-
-abbrev pub list_short : ℕ → StoreFault
-list_short n = record { cause = ListShort; place = n }
 
 -- 3, then the rest
 abbrev pub refused_record : {Row Change : Type 0} → Model Row Change → ℕ → Option StoreFault → Option StoreFault
@@ -166,9 +150,9 @@ module _ {Row Edit Change : Type 0} (k : Ops Row Edit Change) where
   -- 5, 6, 7
   abbrev pub refused_own : Model Row Change → ℕ → ℕ → Option StoreFault
   refused_own m w i =
-      or_else (by_other w (record_at m i).holder) (record { cause = HeldByOther; place = i })
-      (or_else (nat_lt w (record_at m i).last) (record { cause = RowNewer; place = i })
-      (or_else (is_free (record_at m i).holder && nat_le m.room (in_use m.records)) (record { cause = VersionsUsed; place = i }) None))
+      or_else (by_other w (record_at m i).holder) (held_by_other i)
+      (or_else (nat_lt w (record_at m i).last) (row_newer i)
+      (or_else (is_free (record_at m i).holder && nat_le m.room (in_use m.records)) (versions_used i) None))
 
   -- 3, 4, 5, 6, 7
   abbrev pub refused_change : Model Row Change → List ℕ → ℕ → ℕ → Option StoreFault
@@ -211,7 +195,7 @@ abbrev pub does : {Row Change : Type 0} → Told Row → Model Row Change → Li
 does o m ls = record { told = o; model = m; leases = ls }
 
 abbrev pub refusal : {Row : Type 0} → StoreFault → Told Row
-refusal f = plain (Refused (fault_number f.cause) (fault_layer f.cause) f.place)
+refusal f = plain (Refused f)
 
 -- a refused call leaves all as it was
 abbrev pub decide : {Row Change : Type 0} → Option StoreFault → Model Row Change → List ℕ → Step Row Change → Step Row Change

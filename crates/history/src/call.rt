@@ -1,5 +1,5 @@
 // Calls and outcomes as values, of a fixed size.
-use lease::fault::Layer;
+use crate::fault::StoreFault;
 
 // A call on a store, with its arguments: times, writers' numbers, records, an edit.
 #[derive(Clone, Copy)]
@@ -18,7 +18,7 @@ pub enum Call<E> {
 }
 
 // What came of a call. The list that Held and Kept write stands in a given place; here is its length.
-#[derive(Clone, Copy)]
+#[derive(Clone, Copy, PartialEq, Eq, Debug)]
 pub enum Outcome<R> {
     Opened(u32),
     Shown(R),
@@ -30,5 +30,5 @@ pub enum Outcome<R> {
     Held(usize),
     Kept(usize),
     InUse(usize),
-    Refused(u8, Layer, u64),
+    Refused(StoreFault),
 }

@@ -4,7 +4,7 @@ ghost use Rattle.history.specs.Card.{fault_number, fault_layer, raised};
 use lease::fault::{Layer, RegistryFault};
 
 // Why a store refuses. What a registry refuses comes up whole.
-#[derive(Clone, Copy)]
+#[derive(Clone, Copy, PartialEq, Eq, Debug)]
 pub enum StoreCause {
     TableSize,
     StartHigh,
@@ -18,20 +18,26 @@ pub enum StoreCause {
 }
 
 // A store's refusal, with its place: a size, a start, a record, a clock, a length, or the registry's place.
-#[derive(Clone, Copy)]
+#[derive(Clone, Copy, PartialEq, Eq, Debug)]
 pub struct StoreFault {
     pub cause: StoreCause,
     pub place: u64,
+}
+
+impl StoreCause {
+    // The refusal for this cause at a place.
+    pub fn at(self, place: u64) -> StoreFault
+        ensures { result ≡ record { cause = self; place = place } }
+    {
+        StoreFault { cause: self, place }
+    }
 }
 
 impl From<RegistryFault> for StoreFault {
     ghost from_gives = { λ e r. r ≡ raised e };
 
     fn from(f: RegistryFault) -> StoreFault {
-        StoreFault {
-            cause: StoreCause::FromRegistry(f),
-            place: f.place as u64,
-        }
+        StoreCause::FromRegistry(f).at(u64::from(f.place))
     }
 }
 
@@ -58,15 +64,8 @@ impl StoreFault {
         ensures { result ≡ fault_layer self.now.cause }
     {
         match self.cause {
-            StoreCause::TableSize => Layer::Store,
-            StoreCause::StartHigh => Layer::Store,
-            StoreCause::NoRecord => Layer::Store,
-            StoreCause::HeldByOther => Layer::Store,
-            StoreCause::RowNewer => Layer::Store,
-            StoreCause::VersionsUsed => Layer::Store,
-            StoreCause::ClockLimit => Layer::Store,
-            StoreCause::ListShort => Layer::Store,
             StoreCause::FromRegistry(f) => f.layer(),
+            _ => Layer::Store,
         }
     }
 }

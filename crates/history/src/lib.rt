@@ -3,4 +3,5 @@
 
 pub mod call;
 pub mod fault;
+pub mod show;
 pub mod theorems;

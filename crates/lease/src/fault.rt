@@ -2,7 +2,7 @@ ghost use Rattle.std.specs.Prelude.{◌≡◌};
 ghost use Rattle.lease.specs.Card.{cause_number, cause_layer, none_open, full};
 
 // The layer that refused: a registry, a store or a script.
-#[derive(Clone, Copy)]
+#[derive(Clone, Copy, PartialEq, Eq, Debug)]
 pub enum Layer {
     Registry,
     Store,
@@ -10,14 +10,14 @@ pub enum Layer {
 }
 
 // Why a registry refused: no lease is open at the time, or the capacity is reached.
-#[derive(Clone, Copy)]
+#[derive(Clone, Copy, PartialEq, Eq, Debug)]
 pub enum RegistryCause {
     NoneOpen,
     Full,
 }
 
 // A registry's refusal, with its place: the time, or the capacity.
-#[derive(Clone, Copy)]
+#[derive(Clone, Copy, PartialEq, Eq, Debug)]
 pub struct RegistryFault {
     pub cause: RegistryCause,
     pub place: u32,

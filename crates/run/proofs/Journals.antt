@@ -1,8 +1,11 @@
 -- A journal that is performed turn by turn keeps the tie between the store and the history; and what was written can be cut back out of the list.
-use Rattle.std.proofs.Common.{◌≡◌, ℕ, zero, suc, ◌+◌, ◌-◌, ◌<◌, ◌≤◌, ltb, leb, List, [], ◌∷◌, ◌++◌, map, length, get_or, take, drop, set, Some, None, Option, sym, refl, ap, ◌∙◌, subst, subst₂, append_assoc, arith, length-append, length-set}
+use Rattle.std.proofs.Common.{◌≡◌, ℕ, ◌+◌, ◌-◌, ◌<◌, ◌≤◌, ltb, leb, List, [], ◌∷◌, ◌++◌, map, length, get_or, take, drop, set, Some, None, Option, sym, refl, ap, ◌∙◌, subst, subst₂, append_assoc, arith, length-append, length-set}
 use borrow.Rule.Slice.PartMut.{put_mid}
 use lib.ListN.{length-replicate}
-use Rattle.std.proofs.lemmas.List.{take_at, drop_at, drop-drop, take_all, take_more_set, length-map, length-drop, drop_all, append-nil}
+use Rattle.std.specs.List.{flat_map}
+use Rattle.std.proofs.Math.Seq.{map-set_same}
+use Rattle.std.proofs.lemmas.Grind.{flat_map-append}
+use Rattle.std.proofs.lemmas.List.{take_at, drop_at, drop-drop, take_all, take_more_set, length-map, length-drop, drop_all, append-nil, map-append}
 use Rattle.std.proofs.lemmas.Bool.{ltb-false}
 use Rattle.kind.specs.Kinds.{Ops, Laws}
 use Rattle.lease.specs.Times.{insert, delete, opens}
@@ -69,31 +72,20 @@ module _ {Edit Row : Type 0} where
       let left : (n - wrote x.outcome) - used_by ts ≡ n - (wrote x.outcome + used_by ts) = omega arith in
       ap (λ z. record { call = x.call; given = n } ∷ z) (rest ∙ ap (λ z. asked_from (n - wrote x.outcome) ts ++ (record { call = t.call; given = z } ∷ [])) left)
 
-  calls-set : (ts : List (Turn Edit Row)) (i : ℕ) (t d : Turn Edit Row) → t.call ≡ (get_or ts i d).call → calls_of (set ts i t) ≡ calls_of ts
-  calls-set [] i t d e = refl
-  calls-set (x ∷ ts) zero t d e = ap (λ z. z ∷ calls_of ts) e
-  calls-set (x ∷ ts) (suc i) t d e = ap (λ z. x.call ∷ z) (calls-set ts i t d e)
-
 -- all that was written, and each as long as its outcome says
 abbrev written_all : {Row : Type 0} → List (Told Row) → List ℕ
-written_all [] = []
-written_all (o ∷ os) = o.written ++ written_all os
+written_all os = flat_map (λ o. o.written) os
 
 abbrev Sized : {Row : Type 0} → List (Told Row) → Type 0
 Sized [] = Unit {0}
 Sized (o ∷ os) = (wrote o.outcome ≡ length o.written) × Sized os
 
 written_more : {Row : Type 0} (os : List (Told Row)) (o : Told Row) → written_all (os ++ (o ∷ [])) ≡ written_all os ++ o.written
-written_more [] o = append-nil o.written
-written_more (p ∷ os) o = ap (λ z. p.written ++ z) (written_more os o) ∙ sym (append_assoc p.written (written_all os) o.written)
+written_more os o = flat_map-append (λ p. p.written) os (o ∷ []) ∙ ap (λ z. written_all os ++ z) (append-nil o.written)
 
 sized_more : {Row : Type 0} (os : List (Told Row)) (o : Told Row) → Sized os → wrote o.outcome ≡ length o.written → Sized (os ++ (o ∷ []))
 sized_more [] o s e = (e, tt)
 sized_more (p ∷ os) o s e = (s.0, sized_more os o s.1 e)
-
-map_more : {A B : Type 0} (f : A → B) (xs : List A) (x : A) → map f (xs ++ (x ∷ [])) ≡ map f xs ++ (f x ∷ [])
-map_more f [] x = refl
-map_more f (y ∷ xs) x = ap (λ z. f y ∷ z) (map_more f xs x)
 
 clash : {A : Type 0} (x : A) (xs : List A) → [] ≡ x ∷ xs → ⊥
 clash x xs e = let z : ◌≡◌ {A = ℕ} 0 1 = cc in omega arith
@@ -167,10 +159,10 @@ module _ {Row Edit Change : Type 0} (k : Ops Row Edit Change) (cap v n start : �
         let asked : asked_from (length l₀) (take (i + 1) (set j i turn)) ≡ asked_from (length l₀) (take i j) ++ (record { call = t.call; given = length sub } ∷ []) =
         ap (asked_from (length l₀)) more ∙ asked_more (length l₀) (take i j) turn ∙ ap (λ z. asked_from (length l₀) (take i j) ++ (record { call = t.call; given = z } ∷ [])) (sym given) in
         record {
-          calls = calls-set j i turn t (ap (λ (z : Turn Edit Row). z.call) at_i) ∙ p.calls;
+          calls = map-set_same (λ (z : Turn Edit Row). z.call) j i turn t (ap (λ (z : Turn Edit Row). z.call) at_i) ∙ p.calls;
           size = length-set j i turn ∙ p.size;
           told = p.told ++ (st.told ∷ []);
-          outs = ap (map (λ (z : Turn Edit Row). z.outcome)) more ∙ map_more (λ (z : Turn Edit Row). z.outcome) (take i j) turn ∙ (λ x. p.outs x ++ (q.outcome x ∷ [])) ∙ sym (map_more (λ (z : Told Row). z.outcome) p.told st.told);
+          outs = ap (map (λ (z : Turn Edit Row). z.outcome)) more ∙ map-append (λ (z : Turn Edit Row). z.outcome) (take i j) (turn ∷ []) ∙ (λ x. p.outs x ++ (q.outcome x ∷ [])) ∙ sym (map-append (λ (z : Told Row). z.outcome) p.told (st.told ∷ []));
           sized = sized_more p.told st.told p.sized fine.0;
           used = omega (arith, p.used, ap used_by more, used_more (take i j) turn, ew);
           within = omega (arith, p.within, wide, fine.1, ap length rest, length-drop u l₀);

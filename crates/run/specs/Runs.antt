@@ -21,7 +21,7 @@ wrote (Abandoned n) = 0
 wrote (Held n) = n
 wrote (Kept n) = n
 wrote (InUse n) = 0
-wrote (Refused n l p) = 0
+wrote (Refused f) = 0
 
 module _ {Edit Row : Type 0} where
   abbrev pub calls_of : List (Turn Edit Row) → List (Call Edit)

@@ -29,6 +29,7 @@ pub fn run<K: Kind, R: Registry>(
     let mut store = fresh.store();
     let mut registry = R::empty();
     let mut used = 0;
+    // By index: each turn gets its outcome in place, and the law speaks of every turn of the journal.
     for i in 0..journal.len() {
         let turn = journal[i];
         let outcome = perform::<K, R>(&mut store, &mut registry, turn.call, &mut list[used..]);

@@ -27,8 +27,7 @@ pub fn wrote<R: Copy>(outcome: Outcome<R>) -> usize
     ensures { result ≡ wrote outcome }
 {
     match outcome {
-        Outcome::Held(n) => n,
-        Outcome::Kept(n) => n,
+        Outcome::Held(n) | Outcome::Kept(n) => n,
         _ => 0,
     }
 }

@@ -1,19 +1,21 @@
 -- A new store, and the length of a record's chain.
-use Rattle.std.proofs.Common.{◌≡◌, ℕ, zero, suc, ◌+◌, ◌<◌, ◌≤◌, Bool, true, false, cond, ◌&&◌, eqb, List, [], ◌∷◌, ◌++◌, length, get_or, take, drop, set, replicate, Some, None, vec_items, sum_by, Option, sym, refl, ap, ◌∙◌, append_assoc, append-nil, add-one, arith}
-use Rattle.std.proofs.lemmas.List.{at_drop_more, at_drop_all, take_more_set, drop-set-lt, drop-drop}
-use Rattle.std.proofs.lemmas.Bool.{eq-eqb, ne_eqb}
+use Rattle.std.proofs.Common.{◌≡◌, ℕ, zero, suc, ◌+◌, ◌<◌, ◌≤◌, Bool, true, false, cond, List, [], ◌∷◌, ◌++◌, length, get_or, take, drop, set, replicate, Some, None, vec_items, sum_by, Option, sym, refl, ap, ◌∙◌, append_assoc, append-nil, add-one, arith}
+use Rattle.std.proofs.lemmas.List.{at_drop_more, at_drop_all, take_more_set, drop-set-lt, drop-drop, length-append, length-take-le}
+use Rattle.std.proofs.lemmas.Bool.{and_parts}
 use mathlib.Core.Bool.{false≢true}
 use Rattle.chain.specs.declared.version.Version.{Version}
 use Rattle.state.specs.declared.entry.Entry.{Entry}
 use Rattle.state.specs.Matched.{backed, matched}
-use Rattle.history.specs.History.{free, held_by, who}
-use Rattle.state.specs.Stored.{viewed, behind, hold_of}
+use Rattle.history.specs.History.{free}
+use Rattle.state.specs.Stored.{viewed, behind}
 use Rattle.state.specs.View.{view}
 use Rattle.std.proofs.lemmas.List.Sums.{sum_by-cons}
 use Rattle.kind.specs.declared.Kind.{Ghosts}
 use Rattle.version_table.specs.Chains.{chains}
 use Rattle.state.specs.declared.state.State.{State}
-use Rattle.history.specs.Model.{held_from, owners}
+use Rattle.history.specs.Model.{held_from, held_number, owners}
+use Rattle.history.proofs.Counts.{held_length}
+use Rattle.state.proofs.Writes.{owns, owns_who}
 
 module _ {Row : Type 0} (C : Type 0) (r : Row) (t : ℕ) where
   pub fresh_sound : (n : ℕ) → matched {C = C} (replicate n (record { row = r; last = t; holder = None })) (replicate n []) ≡ true
@@ -64,63 +66,54 @@ one_fewer o w c e b = go c (ap (λ z. backed z c) (sym e) ∙ b)
     go (v ∷ vs) b = refl
 
 -- the numbers of the records that a writer holds, as the record table says it
-abbrev pub row_mine : ℕ → ℕ → Option ℕ → List ℕ → List ℕ
-row_mine w i None l = l
-row_mine w i (Some v) l = cond (eqb w v) (i ∷ l) l
-
 abbrev pub rows_mine : {Row : Type 0} → ℕ → ℕ → List (Entry Row) → List ℕ
 rows_mine w i [] = []
-rows_mine w i (x ∷ xs) = row_mine w i x.holder (rows_mine w (suc i) xs)
+rows_mine w i (x ∷ xs) = cond (owns w x.holder) (i ∷ rows_mine w (suc i) xs) (rows_mine w (suc i) xs)
 
-one_row : {C : Type 0} (w i : ℕ) (o : Option ℕ) (c : List (Version C)) (l : List ℕ) → backed o c ≡ true → cond (held_by w (who (hold_of o c))) (i ∷ l) l ≡ row_mine w i o l
-one_row w i None c l b = refl
-one_row w i (Some v) [] l b = absurd (false≢true b)
-one_row w i (Some v) (u ∷ c) l b = refl
-
-and_both : (a b : Bool) → (a && b) ≡ true → (a ≡ true) × (b ≡ true)
-and_both true b e = (refl, e)
-and_both false b e = absurd (false≢true e)
-
-pub rows_are : {Row C : Type 0} (w i : ℕ) (rs : List (Entry Row)) (cs : List (List (Version C))) → matched rs cs ≡ true → held_from w i (owners (viewed rs cs)) ≡ rows_mine w i rs
+rows_are : {Row C : Type 0} (w i : ℕ) (rs : List (Entry Row)) (cs : List (List (Version C))) → matched rs cs ≡ true → held_from w i (owners (viewed rs cs)) ≡ rows_mine w i rs
 rows_are w i [] [] e = refl
 rows_are w i [] (c ∷ cs) e = absurd (false≢true e)
 rows_are w i (r ∷ rs) [] e = absurd (false≢true e)
 rows_are w i (r ∷ rs) (c ∷ cs) e =
-    let a = and_both (backed r.holder c) (matched rs cs) e in
-    ap (λ l. cond (held_by w (who (hold_of r.holder c))) (i ∷ l) l) (rows_are w (suc i) rs cs a.1) ∙ one_row w i r.holder c (rows_mine w (suc i) rs) a.0
-
-row_at : {Row : Type 0} (w i : ℕ) (rs : List (Entry Row)) (x : Entry Row) → i < length rs → x ≡ get_or rs i x → rows_mine w i (drop i rs) ≡ row_mine w i x.holder (rows_mine w (i + 1) (drop (i + 1) rs))
-row_at {Row} w i rs x h e =
-    at_drop_more (rows_mine w i) rs i x h
-    ∙ ap (λ (z : Entry Row). row_mine w i z.holder (rows_mine w (suc i) (drop (i + 1) rs))) (sym e)
-    ∙ ap (λ n. row_mine w i x.holder (rows_mine w n (drop (i + 1) rs))) (sym (add-one i))
-
-row_yes : (w i v : ℕ) (o : Option ℕ) (l : List ℕ) → o ≡ Some v → v ≡ w → row_mine w i o l ≡ i ∷ l
-row_yes w i v o l e q = ap (λ z. row_mine w i z l) e ∙ ap (λ b. cond b (i ∷ l) l) (eq-eqb w v (sym q))
-
-row_no : (w i v : ℕ) (o : Option ℕ) (l : List ℕ) → o ≡ Some v → (v ≡ w → ⊥) → row_mine w i o l ≡ l
-row_no w i v o l e q = ap (λ z. row_mine w i z l) e ∙ ap (λ b. cond b (i ∷ l) l) (ne_eqb w v (λ z. q (sym z)))
+    let a = and_parts (backed r.holder c) (matched rs cs) e in
+    let rest = rows_are w (suc i) rs cs a.1 in
+    λ j. cond (owns_who w r.holder c a.0 j) (i ∷ rest j) (rest j)
 
 -- one turn of the loop that writes them
-module _ {Row : Type 0} (w i n : ℕ) (rs : List (Entry Row)) (x : Entry Row) (out₀ out : List ℕ) (h : i < length rs) (e : x ≡ get_or rs i x) (inv : take n out ++ rows_mine w i (drop i rs) ≡ rows_mine w 0 rs) (rest : drop n out ≡ drop n out₀) where
-  pub turn_yes : (v : ℕ) → x.holder ≡ Some v → v ≡ w → n < length out → (take (n + 1) (set out n i) ++ rows_mine w (i + 1) (drop (i + 1) rs) ≡ rows_mine w 0 rs) × (drop (n + 1) (set out n i) ≡ drop (n + 1) out₀)
-  turn_yes v a q l =
-      let t = rows_mine w (i + 1) (drop (i + 1) rs) in
-      let s : n < n + 1 = omega arith in (
-        ap (λ z. z ++ t) (take_more_set out n i l) ∙ append_assoc (take n out) (i ∷ []) t
-            ∙ ap (λ z. take n out ++ z) (sym (row_at w i rs x h e ∙ row_yes w i v x.holder t a q)) ∙ inv,
-        drop-set-lt (n + 1) out n i s ∙ sym (drop-drop 1 n out) ∙ ap (drop 1) rest ∙ drop-drop 1 n out₀,
-      )
+module _ {Row : Type 0} (w i n : ℕ) (rs : List (Entry Row)) (x : Entry Row) (out : List ℕ) (h : i < length rs) (e : x ≡ get_or rs i x) (inv : take n out ++ rows_mine w i (drop i rs) ≡ rows_mine w 0 rs) where
+  abbrev after : List ℕ
+  after = rows_mine w (i + 1) (drop (i + 1) rs)
 
-  pub turn_no : (v : ℕ) → x.holder ≡ Some v → (v ≡ w → ⊥) → take n out ++ rows_mine w (i + 1) (drop (i + 1) rs) ≡ rows_mine w 0 rs
-  turn_no v a q = ap (λ z. take n out ++ z) (sym (row_at w i rs x h e ∙ row_no w i v x.holder (rows_mine w (i + 1) (drop (i + 1) rs)) a q)) ∙ inv
+  turn : (b : Bool) → owns w x.holder ≡ b → take n out ++ cond b (i ∷ after) after ≡ rows_mine w 0 rs
+  turn b q =
+      ap (λ z. take n out ++ z)
+      (sym (at_drop_more (rows_mine w i) rs i x h
+      ∙ ap (λ (z : Entry Row). cond (owns w z.holder) (i ∷ rows_mine w (suc i) (drop (i + 1) rs)) (rows_mine w (suc i) (drop (i + 1) rs))) (sym e)
+      ∙ ap (λ m. cond (owns w x.holder) (i ∷ rows_mine w m (drop (i + 1) rs)) (rows_mine w m (drop (i + 1) rs))) (sym (add-one i))
+      ∙ ap (λ z. cond z (i ∷ after) after) q))
+      ∙ inv
 
-  pub turn_none : x.holder ≡ None → take n out ++ rows_mine w (i + 1) (drop (i + 1) rs) ≡ rows_mine w 0 rs
-  turn_none a = ap (λ z. take n out ++ z) (sym (row_at w i rs x h e ∙ ap (λ o. row_mine w i o (rows_mine w (i + 1) (drop (i + 1) rs))) a)) ∙ inv
+  pub turn_no : owns w x.holder ≡ false → take n out ++ after ≡ rows_mine w 0 rs
+  turn_no q = turn false q
+
+  -- there is room for one more
+  pub turn_fits : owns w x.holder ≡ true → n ≤ length out → length (rows_mine w 0 rs) ≤ length out → n < length out
+  turn_fits q l all = omega (arith, ap length (turn true q), length-append (take n out) (i ∷ after), length-take-le n out l, all)
+
+  pub turn_yes : owns w x.holder ≡ true → n < length out → take (n + 1) (set out n i) ++ after ≡ rows_mine w 0 rs
+  turn_yes q l = ap (λ z. z ++ after) (take_more_set out n i l) ∙ append_assoc (take n out) (i ∷ []) after ∙ turn true q
 
 pub turns_end : {Row : Type 0} (w i n : ℕ) (rs : List (Entry Row)) (out : List ℕ) → length rs ≤ i → take n out ++ rows_mine w i (drop i rs) ≡ rows_mine w 0 rs → take n out ≡ rows_mine w 0 rs
 turns_end w i n rs out h inv = sym (append-nil (take n out)) ∙ ap (λ z. take n out ++ z) (sym (at_drop_all (rows_mine w i) rs i h)) ∙ inv
 
-pub view_held : {K Row Edit C : Type 0} {G : Ghosts K Row Edit C} (w : ℕ) (s : State K Row Edit C G) → held_from w 0 (owners (view s).records) ≡ rows_mine w 0 (vec_items s.records)
-unfolding view
-view_held w s = rows_are w 0 (vec_items s.records) (chains s.table) s.sound
+-- what lies behind the place that is written
+pub behind_write : (n i : ℕ) (out out₀ : List ℕ) → drop n out ≡ drop n out₀ → drop (n + 1) (set out n i) ≡ drop (n + 1) out₀
+behind_write n i out out₀ rest = let s : n < n + 1 = omega arith in drop-set-lt (n + 1) out n i s ∙ sym (drop-drop 1 n out) ∙ ap (drop 1) rest ∙ drop-drop 1 n out₀
+
+module _ {K Row Edit C : Type 0} {G : Ghosts K Row Edit C} (w : ℕ) (s : State K Row Edit C G) where
+  pub view_held : held_from w 0 (owners (view s).records) ≡ rows_mine w 0 (vec_items s.records)
+  unfolding view
+  view_held = rows_are w 0 (vec_items s.records) (chains s.table) s.sound
+
+  pub number_held : length (rows_mine w 0 (vec_items s.records)) ≡ held_number w (view s)
+  number_held = sym (ap length view_held) ∙ held_length w 0 (owners (view s).records)

@@ -1,12 +1,13 @@
 -- Who may change a record, as the record table says it.
 use Rattle.std.proofs.Common.{◌≡◌, ℕ, ◌<◌, ◌≤◌, Bool, true, false, ◌&&◌, ltb, leb, List, [], length, get_or, Some, None, vec_items, sum_by, Option, refl, ap, ◌∙◌, arith}
+use Rattle.std.proofs.lemmas.Bool.{lt-ltb, le-ltb}
 use Rattle.std.proofs.lemmas.Bool.Decides.{nat_tests}
 use Rattle.kind.specs.declared.Kind.{Ghosts}
 use Rattle.kind.specs.Kinds.{Ops}
 use Rattle.chain.specs.declared.version.Version.{Version}
 use Rattle.version_table.specs.Chains.{chains, capacity}
 use Rattle.history.specs.declared.fault.StoreFault.{StoreFault}
-use Rattle.history.specs.declared.fault.StoreCause.TheVariants.{HeldByOther, RowNewer, VersionsUsed}
+use Rattle.history.specs.Card.{held_by_other, row_newer, versions_used}
 use Rattle.state.specs.declared.entry.Entry.{Entry}
 use Rattle.state.specs.declared.state.State.{State}
 use Rattle.state.specs.Matched.{backed, Room}
@@ -18,15 +19,15 @@ use Rattle.history.proofs.Refusals.{comes, passes, none_left}
 
 abbrev pub own_of : ℕ → ℕ → Option ℕ → ℕ → Bool → Option StoreFault
 own_of w i o last full =
-    or_else (by_other_of w o) (record { cause = HeldByOther; place = i })
-    (or_else (ltb w last) (record { cause = RowNewer; place = i })
-    (or_else (free_of o && full) (record { cause = VersionsUsed; place = i }) None))
+    or_else (by_other_of w o) (held_by_other i)
+    (or_else (ltb w last) (row_newer i)
+    (or_else (free_of o && full) (versions_used i) None))
 
 abbrev parts : ℕ → ℕ → Bool → ℕ → Bool → Bool → Option StoreFault
 parts w i other last fr full =
-    or_else other (record { cause = HeldByOther; place = i })
-    (or_else (ltb w last) (record { cause = RowNewer; place = i })
-    (or_else (fr && full) (record { cause = VersionsUsed; place = i }) None))
+    or_else other (held_by_other i)
+    (or_else (ltb w last) (row_newer i)
+    (or_else (fr && full) (versions_used i) None))
 
 module _ {K Row Edit C : Type 0} {G : Ghosts K Row Edit C} (k : Ops Row Edit C) (s : State K Row Edit C G) where
   abbrev pub full_up : Bool
@@ -49,9 +50,9 @@ module _ {K Row Edit C : Type 0} {G : Ghosts K Row Edit C} (k : Ops Row Edit C) 
 
 pub own_none : (w i : ℕ) (o : Option ℕ) (last : ℕ) (full : Bool) → own_of w i o last full ≡ None → (by_other_of w o ≡ false) × ((free_of o && full) ≡ false)
 own_none w i o last full e =
-    let a = none_left (by_other_of w o) (record { cause = HeldByOther; place = i }) (or_else (ltb w last) (record { cause = RowNewer; place = i }) (or_else (free_of o && full) (record { cause = VersionsUsed; place = i }) None)) e in
-    let b = none_left (ltb w last) (record { cause = RowNewer; place = i }) (or_else (free_of o && full) (record { cause = VersionsUsed; place = i }) None) a.1 in
-    let c = none_left (free_of o && full) (record { cause = VersionsUsed; place = i }) None b.1 in
+    let a = none_left (by_other_of w o) (held_by_other i) (or_else (ltb w last) (row_newer i) (or_else (free_of o && full) (versions_used i) None)) e in
+    let b = none_left (ltb w last) (row_newer i) (or_else (free_of o && full) (versions_used i) None) a.1 in
+    let c = none_left (free_of o && full) (versions_used i) None b.1 in
     (a.0, c.0)
 
 lt_of : (n used : ℕ) → leb n used ≡ false → used < n
@@ -61,28 +62,29 @@ pub room_of : {C : Type 0} (o : Option ℕ) (vs : List (Version C)) (used n : �
 room_of None vs used n e = lt_of n used e
 room_of (Some w) vs used n e = tt
 
-pub not_mine : (w v : ℕ) → (v ≡ w → ⊥) → by_other_of w (Some v) ≡ true
-not_mine w v n = grind (arith, nat_tests)
+-- the checks in turn
+module _ (w i last : ℕ) (full : Bool) where
+  pub own_five : (o : Option ℕ) (v : ℕ) → o ≡ Some v → (v ≡ w → ⊥) → own_of w i o last full ≡ Some (held_by_other i)
+  own_five o v e n = ap (λ z. own_of w i z last full) e ∙ comes (by_other_of w (Some v)) (held_by_other i) (or_else (ltb w last) (row_newer i) (or_else (free_of (Some v) && full) (versions_used i) None)) (grind (arith, nat_tests))
 
-pub is_mine : (w v : ℕ) → v ≡ w → by_other_of w (Some v) ≡ false
-is_mine w v e = grind (arith, nat_tests)
+  -- a record that no other holds
+  not_five : (o : Option ℕ) → by_other_of w o ≡ false → own_of w i o last full ≡ or_else (ltb w last) (row_newer i) (or_else (free_of o && full) (versions_used i) None)
+  not_five o b = passes (by_other_of w o) (held_by_other i) (or_else (ltb w last) (row_newer i) (or_else (free_of o && full) (versions_used i) None)) b
 
-module _ (w i : ℕ) (o : Option ℕ) (last : ℕ) (full : Bool) where
-  pub own_five : by_other_of w o ≡ true → own_of w i o last full ≡ Some (record { cause = HeldByOther; place = i })
-  own_five b = comes (by_other_of w o) (record { cause = HeldByOther; place = i }) (or_else (ltb w last) (record { cause = RowNewer; place = i }) (or_else (free_of o && full) (record { cause = VersionsUsed; place = i }) None)) b
+  pub own_six : (o : Option ℕ) → by_other_of w o ≡ false → w < last → own_of w i o last full ≡ Some (row_newer i)
+  own_six o b h = not_five o b ∙ comes (ltb w last) (row_newer i) (or_else (free_of o && full) (versions_used i) None) (lt-ltb w last h)
 
-  pub own_six : by_other_of w o ≡ false → w < last → own_of w i o last full ≡ Some (record { cause = RowNewer; place = i })
-  own_six b h =
-      passes (by_other_of w o) (record { cause = HeldByOther; place = i }) (or_else (ltb w last) (record { cause = RowNewer; place = i }) (or_else (free_of o && full) (record { cause = VersionsUsed; place = i }) None)) b
-      ∙ comes (ltb w last) (record { cause = RowNewer; place = i }) (or_else (free_of o && full) (record { cause = VersionsUsed; place = i }) None) (grind (arith, nat_tests))
+  late : (o : Option ℕ) → by_other_of w o ≡ false → last ≤ w → own_of w i o last full ≡ or_else (free_of o && full) (versions_used i) None
+  late o b h = not_five o b ∙ passes (ltb w last) (row_newer i) (or_else (free_of o && full) (versions_used i) None) (le-ltb w last h)
 
-  late : by_other_of w o ≡ false → last ≤ w → own_of w i o last full ≡ or_else (free_of o && full) (record { cause = VersionsUsed; place = i }) None
-  late b h =
-      passes (by_other_of w o) (record { cause = HeldByOther; place = i }) (or_else (ltb w last) (record { cause = RowNewer; place = i }) (or_else (free_of o && full) (record { cause = VersionsUsed; place = i }) None)) b
-      ∙ passes (ltb w last) (record { cause = RowNewer; place = i }) (or_else (free_of o && full) (record { cause = VersionsUsed; place = i }) None) (grind (arith, nat_tests))
+  pub own_free : (o : Option ℕ) → o ≡ None → last ≤ w → own_of w i o last full ≡ or_else full (versions_used i) None
+  own_free o e h = ap (λ z. own_of w i z last full) e ∙ late None refl h
 
-  pub own_seven : by_other_of w o ≡ false → last ≤ w → free_of o ≡ true → full ≡ true → own_of w i o last full ≡ Some (record { cause = VersionsUsed; place = i })
-  own_seven b h f u = late b h ∙ comes (free_of o && full) (record { cause = VersionsUsed; place = i }) None (ap (λ z. z && full) f ∙ u)
+  pub own_held : (o : Option ℕ) (v : ℕ) → o ≡ Some v → by_other_of w o ≡ false → last ≤ w → own_of w i o last full ≡ None
+  own_held o v e b h = late o b h ∙ ap (λ z. or_else (free_of z && full) (versions_used i) None) e
 
-  pub own_fine : by_other_of w o ≡ false → last ≤ w → (free_of o && full) ≡ false → own_of w i o last full ≡ None
-  own_fine b h f = late b h ∙ passes (free_of o && full) (record { cause = VersionsUsed; place = i }) None f
+pub not_other : (w : ℕ) (o : Option ℕ) (v : ℕ) → o ≡ Some v → v ≡ w → by_other_of w o ≡ false
+not_other w o v e q = ap (by_other_of w) e ∙ mine w v q
+  where
+    mine : (w v : ℕ) → v ≡ w → by_other_of w (Some v) ≡ false
+    mine w v q = grind (arith, nat_tests)

@@ -1,6 +1,7 @@
 -- Records and chains side by side.
-use Rattle.std.proofs.Common.{◌≡◌, ℕ, zero, suc, ◌+◌, ◌<◌, ◌≤◌, Bool, true, false, not, ◌&&◌, eqb, List, [], ◌∷◌, map, length, get_or, drop, set, Some, None, vec_items, sum_by, Option, Vec, sym, refl, ap, ◌∙◌, add-one, arith}
+use Rattle.std.proofs.Common.{◌≡◌, ℕ, zero, suc, ◌+◌, ◌<◌, ◌≤◌, Bool, true, false, not, eqb, List, [], ◌∷◌, map, length, get_or, drop, set, Some, None, vec_items, sum_by, Option, Vec, sym, refl, ap, ◌∙◌, add-one, arith}
 use mathlib.Core.Bool.{false≢true}
+use Rattle.std.proofs.lemmas.Bool.{and_parts, and_from}
 use Rattle.std.proofs.lemmas.Bool.Decides.{nat_tests}
 use Rattle.std.proofs.lemmas.List.Sums.{sum_by-cons}
 use Rattle.std.specs.declared.alloc.Global.{Global}
@@ -23,13 +24,6 @@ use Rattle.state.specs.Stored.{hold_of, behind, stored, viewed}
 use Rattle.state.specs.View.{view}
 use Rattle.history.specs.Law.{is_held}
 
-pub and_both : (a b : Bool) → (a && b) ≡ true → (a ≡ true) × (b ≡ true)
-and_both true b e = (refl, e)
-and_both false b e = absurd (false≢true e)
-
-pub both_and : (a b : Bool) → a ≡ true → b ≡ true → (a && b) ≡ true
-both_and a b x y = ap (λ z. z && b) x ∙ y
-
 one_use : {C : Type 0} (o : Option ℕ) (c : List (Version C)) → backed o c ≡ true → length (behind o c) + is_held (hold_of o c) ≡ length c
 one_use None c b = omega arith
 one_use (Some w) [] b = absurd (false≢true b)
@@ -40,44 +34,44 @@ module _ {Row C : Type 0} where
   rows_alike [] [] e = refl
   rows_alike [] (c ∷ cs) e = absurd (false≢true e)
   rows_alike (r ∷ rs) [] e = absurd (false≢true e)
-  rows_alike (r ∷ rs) (c ∷ cs) e = ap suc (rows_alike rs cs (and_both (backed r.holder c) (matched rs cs) e).1)
+  rows_alike (r ∷ rs) (c ∷ cs) e = ap suc (rows_alike rs cs (and_parts (backed r.holder c) (matched rs cs) e).1)
 
   pub viewed-rows : (rs : List (Entry Row)) (cs : List (List (Version C))) → matched rs cs ≡ true → length (viewed rs cs) ≡ length rs
   viewed-rows [] [] e = refl
   viewed-rows [] (c ∷ cs) e = absurd (false≢true e)
   viewed-rows (r ∷ rs) [] e = absurd (false≢true e)
-  viewed-rows (r ∷ rs) (c ∷ cs) e = ap suc (viewed-rows rs cs (and_both (backed r.holder c) (matched rs cs) e).1)
+  viewed-rows (r ∷ rs) (c ∷ cs) e = ap suc (viewed-rows rs cs (and_parts (backed r.holder c) (matched rs cs) e).1)
 
   pub viewed_at : (rs : List (Entry Row)) (cs : List (List (Version C))) (i : ℕ) (d : Stored Row C) (x : Entry Row) → matched rs cs ≡ true → i < length rs → at_or d (viewed rs cs) i ≡ stored (get_or rs i x) (get_or cs i [])
   viewed_at [] [] i d x e h = absurd (omega arith)
   viewed_at [] (c ∷ cs) i d x e h = absurd (omega arith)
   viewed_at (r ∷ rs) [] i d x e h = absurd (false≢true e)
   viewed_at (r ∷ rs) (c ∷ cs) zero d x e h = refl
-  viewed_at (r ∷ rs) (c ∷ cs) (suc i) d x e h = viewed_at rs cs i d x (and_both (backed r.holder c) (matched rs cs) e).1 (omega arith)
+  viewed_at (r ∷ rs) (c ∷ cs) (suc i) d x e h = viewed_at rs cs i d x (and_parts (backed r.holder c) (matched rs cs) e).1 (omega arith)
 
   pub backed_at : (rs : List (Entry Row)) (cs : List (List (Version C))) (i : ℕ) (x : Entry Row) → matched rs cs ≡ true → i < length rs → backed (get_or rs i x).holder (get_or cs i []) ≡ true
   backed_at [] [] i x e h = absurd (omega arith)
   backed_at [] (c ∷ cs) i x e h = absurd (omega arith)
   backed_at (r ∷ rs) [] i x e h = absurd (false≢true e)
-  backed_at (r ∷ rs) (c ∷ cs) zero x e h = (and_both (backed r.holder c) (matched rs cs) e).0
-  backed_at (r ∷ rs) (c ∷ cs) (suc i) x e h = backed_at rs cs i x (and_both (backed r.holder c) (matched rs cs) e).1 (omega arith)
+  backed_at (r ∷ rs) (c ∷ cs) zero x e h = (and_parts (backed r.holder c) (matched rs cs) e).0
+  backed_at (r ∷ rs) (c ∷ cs) (suc i) x e h = backed_at rs cs i x (and_parts (backed r.holder c) (matched rs cs) e).1 (omega arith)
 
   -- one record and its chain are written
   pub matched-set : (rs : List (Entry Row)) (cs : List (List (Version C))) (i : ℕ) (r : Entry Row) (c : List (Version C)) → matched rs cs ≡ true → backed r.holder c ≡ true → matched (set rs i r) (set cs i c) ≡ true
   matched-set [] [] i r c e b = refl
   matched-set [] (d ∷ cs) i r c e b = absurd (false≢true e)
   matched-set (q ∷ rs) [] i r c e b = absurd (false≢true e)
-  matched-set (q ∷ rs) (d ∷ cs) zero r c e b = both_and (backed r.holder c) (matched rs cs) b (and_both (backed q.holder d) (matched rs cs) e).1
+  matched-set (q ∷ rs) (d ∷ cs) zero r c e b = and_from (backed r.holder c) (matched rs cs) b (and_parts (backed q.holder d) (matched rs cs) e).1
   matched-set (q ∷ rs) (d ∷ cs) (suc i) r c e b =
-      let a = and_both (backed q.holder d) (matched rs cs) e in
-      both_and (backed q.holder d) (matched (set rs i r) (set cs i c)) a.0 (matched-set rs cs i r c a.1 b)
+      let a = and_parts (backed q.holder d) (matched rs cs) e in
+      and_from (backed q.holder d) (matched (set rs i r) (set cs i c)) a.0 (matched-set rs cs i r c a.1 b)
 
   pub viewed-set : (f : Stored Row C → Stored Row C) (rs : List (Entry Row)) (cs : List (List (Version C))) (i : ℕ) (r x : Entry Row) (c : List (Version C)) → matched rs cs ≡ true → i < length rs → stored r c ≡ f (stored (get_or rs i x) (get_or cs i [])) → viewed (set rs i r) (set cs i c) ≡ change_at f (viewed rs cs) i
   viewed-set f [] [] i r x c e h s = absurd (omega arith)
   viewed-set f [] (d ∷ cs) i r x c e h s = absurd (omega arith)
   viewed-set f (q ∷ rs) [] i r x c e h s = absurd (false≢true e)
   viewed-set f (q ∷ rs) (d ∷ cs) zero r x c e h s = ap (λ z. z ∷ viewed rs cs) s
-  viewed-set f (q ∷ rs) (d ∷ cs) (suc i) r x c e h s = ap (λ z. stored q d ∷ z) (viewed-set f rs cs i r x c (and_both (backed q.holder d) (matched rs cs) e).1 (omega arith) s)
+  viewed-set f (q ∷ rs) (d ∷ cs) (suc i) r x c e h s = ap (λ z. stored q d ∷ z) (viewed-set f rs cs i r x c (and_parts (backed q.holder d) (matched rs cs) e).1 (omega arith) s)
 
   -- every slot in use is a kept version or a holder's change
   pub uses : (rs : List (Entry Row)) (cs : List (List (Version C))) → matched rs cs ≡ true → in_use (viewed rs cs) ≡ sum_by length cs
@@ -85,7 +79,7 @@ module _ {Row C : Type 0} where
   uses [] (c ∷ cs) e = absurd (false≢true e)
   uses (r ∷ rs) [] e = absurd (false≢true e)
   uses (r ∷ rs) (c ∷ cs) e =
-      let a = and_both (backed r.holder c) (matched rs cs) e in
+      let a = and_parts (backed r.holder c) (matched rs cs) e in
       omega (arith, one_use r.holder c a.0, uses rs cs a.1, sum_by-cons length c cs)
 
 module _ {K Row Edit C : Type 0} {G : Ghosts K Row Edit C} (s : State K Row Edit C G) where

@@ -57,32 +57,14 @@ impl<K: Kind> State<K> {
         ensures { Owned K.ops (view self.now) w i result }
     {
         let entry = self.records[i];
-        let free = match entry.holder {
-            Some(v) => {
-                if v != w {
-                    return Err(StoreFault {
-                        cause: StoreCause::HeldByOther,
-                        place: i as u64,
-                    });
-                }
-                false
-            }
-            None => true,
-        };
         let last = entry.last;
-        if w < last {
-            return Err(StoreFault {
-                cause: StoreCause::RowNewer,
-                place: i as u64,
-            });
+        let place = i as u64;
+        match entry.holder {
+            Some(v) if v != w => Err(StoreCause::HeldByOther.at(place)),
+            _ if w < last => Err(StoreCause::RowNewer.at(place)),
+            None if self.table.is_full() => Err(StoreCause::VersionsUsed.at(place)),
+            _ => Ok(()),
         }
-        if free && self.table.is_full() {
-            return Err(StoreFault {
-                cause: StoreCause::VersionsUsed,
-                place: i as u64,
-            });
-        }
-        Ok(())
     }
 
     // Edits the row in place. The writer's change of the record is the first of its chain.

@@ -17,16 +17,10 @@ impl<K: Kind> State<K> {
     pub fn holds(&self, w: u32) -> usize
         ensures { result ≡ held_number w (view self.now) }
     {
-        let mut n = 0;
-        for i in 0..self.records.len() {
-            let entry = self.records[i];
-            if let Some(v) = entry.holder {
-                if v == w {
-                    n += 1;
-                }
-            }
-        }
-        n
+        self.records
+            .iter()
+            .filter(|entry| entry.holder == Some(w))
+            .count()
     }
 
     // How many versions the chain of the record i has.

@@ -49,15 +49,13 @@ impl<K: Kind> State<K> {
         ensures { view self.new ≡ one_changed (finish_stored K.ops w t) i (view self.old) }
     {
         let entry = self.records[i];
-        if let Some(v) = entry.holder {
-            if v == w {
-                stamp(&mut self.table, i, t);
-                self.records[i] = Entry {
-                    row: entry.row,
-                    last: t,
-                    holder: None,
-                };
-            }
+        if entry.holder == Some(w) {
+            stamp(&mut self.table, i, t);
+            self.records[i] = Entry {
+                row: entry.row,
+                last: t,
+                holder: None,
+            };
         }
     }
 
@@ -67,19 +65,18 @@ impl<K: Kind> State<K> {
         ensures { view self.new ≡ one_changed (free_stored K.ops w) i (view self.old) }
     {
         let entry = self.records[i];
-        if let Some(v) = entry.holder {
-            if v == w {
-                let row = take_back::<K>(&mut self.table, i, entry.row);
-                self.records[i] = Entry {
-                    row,
-                    last: entry.last,
-                    holder: None,
-                };
-            }
+        if entry.holder == Some(w) {
+            let row = take_back::<K>(&mut self.table, i, entry.row);
+            self.records[i] = Entry {
+                row,
+                last: entry.last,
+                holder: None,
+            };
         }
     }
 
-    // Finishes every change of the writer w at the time t, which is the clock.
+    // Finishes every change of the writer w at the time t, which is the clock. By index: each step writes the record and its chain.
+    // One loop over a closure would be no plainer than this and the next: its contract would have to say what state each step meets.
     fn finish_all(&mut self, w: u32, t: u32)
         requires { t ≡ (view self.old).clock }
         ensures { view self.new ≡ every K.ops (finish_stored K.ops w t) (view self.old) }

@@ -28,13 +28,10 @@ impl<K: Kind> State<K> {
         ensures rest { drop result out.new ≡ drop result out.old }
     {
         let mut n = 0;
-        for i in 0..self.records.len() {
-            let entry = self.records[i];
-            if let Some(v) = entry.holder {
-                if v == w {
-                    out[n] = i as u32;
-                    n += 1;
-                }
+        for (i, entry) in self.records.iter().enumerate() {
+            if entry.holder == Some(w) {
+                out[n] = i as u32;
+                n += 1;
             }
         }
         n

@@ -1,4 +1,4 @@
-ghost use Rattle.std.specs.Prelude.{◌≡◌, ℕ, ◌≤◌, replicate, IfOk};
+ghost use Rattle.std.specs.Prelude.{◌≡◌, ℕ, ◌≤◌, IfOk};
 ghost use Rattle.history.specs.Model.{new_model};
 ghost use Rattle.state.specs.View.{view, table_records, table_versions};
 
@@ -10,36 +10,18 @@ use kind::Kind;
 use std::alloc::{AllocError, Global};
 use version_table::table::VersionTable;
 
-// A table of so many equal entries.
-fn entries<Row: Copy>(
-    heap: Global,
-    n: usize,
-    entry: Entry<Row>,
-) -> Result<Vec<Entry<Row>>, AllocError>
-    ensures { IfOk result (λ v. v.items ≡ replicate n «entry») }
-{
-    let mut all = Vec::with_capacity(heap, n)?;
-    for _i in 0..n {
-        all.push(entry)?;
-    }
-    Ok(all)
-}
-
 impl<K: Kind> Tables<K> {
     // Tables for so many records and versions.
     pub fn make(heap: Global, records: usize, versions: usize) -> Result<Tables<K>, AllocError>
         requires { (records ≤ 4096) × ((1 ≤ versions) × (versions ≤ 16384)) }
         ensures { IfOk result (λ t. (table_records t ≡ records) × (table_versions t ≡ versions)) }
     {
-        let all = entries(
-            heap,
-            records,
-            Entry {
-                row: K::blank(),
-                last: 0,
-                holder: None,
-            },
-        )?;
+        let blank = Entry {
+            row: K::blank(),
+            last: 0,
+            holder: None,
+        };
+        let all = vec![in heap; blank; records]?;
         let table = VersionTable::new(
             heap,
             records,
@@ -60,6 +42,7 @@ impl<K: Kind> Tables<K> {
         ensures { view result ≡ new_model K.ops (table_records self) (table_versions self) start }
     {
         let Tables { mut records, table } = self;
+        // By index: `fill` wants a clone that cannot fail, and a kind does not promise that of its rows.
         for i in 0..records.len() {
             records[i] = Entry {
                 row: K::blank(),

@@ -20,10 +20,7 @@ impl<K: Kind> State<K> {
         ensures { Placed (view self.now) «record» result }
     {
         if record >= self.records.len() as u64 {
-            return Err(StoreFault {
-                cause: StoreCause::NoRecord,
-                place: record,
-            });
+            return Err(StoreCause::NoRecord.at(record));
         }
         Ok(record as usize)
     }
@@ -53,11 +50,9 @@ impl<K: Kind> State<K> {
         ensures { result ≡ looks K.ops (record_at K.ops (view self.now) i) w }
     {
         let entry = self.records[i];
-        if let Some(v) = entry.holder {
-            if v == w {
-                return entry.row;
-            }
+        match entry.holder {
+            Some(v) if v == w => entry.row,
+            _ => self.reading(i, w),
         }
-        self.reading(i, w)
     }
 }

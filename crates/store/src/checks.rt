@@ -1,7 +1,7 @@
 ghost use Rattle.store.specs.Calls.{LeaseOpen};
 
 use history::fault::StoreFault;
-use lease::fault::{RegistryCause, RegistryFault};
+use lease::fault::RegistryFault;
 use lease::registry::Registry;
 
 // Refuses a time at which no lease is open, as the registry would.
@@ -9,11 +9,7 @@ pub(crate) fn ask<R: Registry>(registry: &R, t: u32) -> Result<(), StoreFault>
     ensures { LeaseOpen (R.leases registry.now) t result }
 {
     if registry.count_at(t) == 0 {
-        let fault = RegistryFault {
-            cause: RegistryCause::NoneOpen,
-            place: t,
-        };
-        return Err(StoreFault::from(fault));
+        return Err(StoreFault::from(RegistryFault::not_open(t)));
     }
     Ok(())
 }

@@ -16,10 +16,7 @@ impl<K: Kind> Store<K> {
         let w = writer.number();
         let needed = self.state.holds(w);
         if out.len() < needed {
-            return Err(StoreFault {
-                cause: StoreCause::ListShort,
-                place: needed as u64,
-            });
+            return Err(StoreCause::ListShort.at(needed as u64));
         }
         Ok(self.state.write_held(w, out))
     }
@@ -31,10 +28,7 @@ impl<K: Kind> Store<K> {
         let i = self.state.place_of(record)?;
         let needed = self.state.versions(i);
         if out.len() < needed {
-            return Err(StoreFault {
-                cause: StoreCause::ListShort,
-                place: needed as u64,
-            });
+            return Err(StoreCause::ListShort.at(needed as u64));
         }
         Ok(self.state.write_times(i, out))
     }

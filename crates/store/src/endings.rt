@@ -19,13 +19,9 @@ impl<K: Kind> Store<K> {
         let now = self.state.clock();
         if n > 0 && now == u32::MAX {
             ask(registry, w)?;
-            return Err(StoreFault {
-                cause: StoreCause::ClockLimit,
-                place: now as u64,
-            });
+            return Err(StoreCause::ClockLimit.at(u64::from(now)));
         }
-        registry.remove(w)?;
-        Ok(())
+        Ok(registry.remove(w)?)
     }
 
     // Finishes a writer's changes, prunes every chain, and answers the clock and how many records were finished. Refused, it gives the writer back.

@@ -15,28 +15,19 @@ impl Sizes {
     pub fn check(records: u64, versions: u64, start: u64) -> Result<Sizes, StoreFault>
         ensures { Sized records versions start result }
     {
-        if records == 0 || records > 4096 {
-            return Err(StoreFault {
-                cause: StoreCause::TableSize,
-                place: records,
-            });
+        if !(1..=4096).contains(&records) {
+            return Err(StoreCause::TableSize.at(records));
         }
-        if versions == 0 || versions > 16384 {
-            return Err(StoreFault {
-                cause: StoreCause::TableSize,
-                place: versions,
-            });
+        if !(1..=16384).contains(&versions) {
+            return Err(StoreCause::TableSize.at(versions));
         }
-        if start > 4294967295 {
-            return Err(StoreFault {
-                cause: StoreCause::StartHigh,
-                place: start,
-            });
-        }
+        let Ok(start) = u32::try_from(start) else {
+            return Err(StoreCause::StartHigh.at(start));
+        };
         Ok(Sizes {
             records: records as usize,
             versions: versions as usize,
-            start: start as u32,
+            start,
         })
     }
 }

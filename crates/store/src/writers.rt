@@ -16,10 +16,7 @@ impl<K: Kind> Store<K> {
     {
         let now = self.state.clock();
         if now == u32::MAX {
-            return Err(StoreFault {
-                cause: StoreCause::ClockLimit,
-                place: now as u64,
-            });
+            return Err(StoreCause::ClockLimit.at(u64::from(now)));
         }
         registry.add(now + 1)?;
         self.state.tick();

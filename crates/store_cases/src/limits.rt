@@ -13,7 +13,7 @@ fn a_table_of_one_version(rt: HostRuntime) -> Result<(), Fail> {
     let scene = [
         x(Call::Begin, Outcome::Began(1)),
         x(set3(1, 0, 5), Outcome::Changed),
-        x(set3(1, 1, 5), by_store(7, 1)),
+        by_store(set3(1, 1, 5), 7, 1),
         x(set3(1, 0, 6), Outcome::Changed),
         x(Call::InUse, Outcome::InUse(1)),
         x(Call::Abandon(1), Outcome::Abandoned(1)),
@@ -41,12 +41,12 @@ fn a_table_of_one_version(rt: HostRuntime) -> Result<(), Fail> {
 fn the_clock_at_its_limit(rt: HostRuntime) -> Result<(), Fail> {
     let scene = [
         x(Call::Begin, Outcome::Began(LAST)),
-        x(Call::Begin, by_store(9, 4294967295)),
+        by_store(Call::Begin, 9, 4294967295),
         x(set3(LAST, 0, 5), Outcome::Changed),
-        x(Call::Commit(LAST), by_store(9, 4294967295)),
+        by_store(Call::Commit(LAST), 9, 4294967295),
         x(Call::Look(LAST, 0), row3(5)),
         x(Call::Abandon(LAST), Outcome::Abandoned(1)),
-        x(Call::Commit(LAST), by_registry(4, 4294967295)),
+        by_registry(Call::Commit(LAST), 4, 4294967295),
         x(Call::Open, Outcome::Opened(LAST)),
         x(Call::Commit(LAST), Outcome::Committed(LAST, 0)),
     ];
@@ -70,8 +70,8 @@ fn capacity_reached(rt: HostRuntime) -> Result<(), Fail> {
         x(Call::Open, Outcome::Opened(LAST)),
         x(Call::Open, Outcome::Opened(LAST)),
         x(Call::Open, Outcome::Opened(LAST)),
-        x(Call::Open, by_registry(8, 8)),
-        x(Call::Begin, by_store(9, 4294967295)),
+        by_registry(Call::Open, 8, 8),
+        by_store(Call::Begin, 9, 4294967295),
         x(Call::Close(LAST), Outcome::Closed),
         x(Call::Open, Outcome::Opened(LAST)),
     ];
@@ -93,12 +93,12 @@ fn lists_too_short(rt: HostRuntime) -> Result<(), Fail> {
         x(Call::Begin, Outcome::Began(1)),
         x(set3(1, 0, 5), Outcome::Changed),
         x(set3(1, 2, 5), Outcome::Changed),
-        x(Call::Held(1), by_store(10, 2)),
+        by_store(Call::Held(1), 10, 2),
         x(Call::Abandon(1), Outcome::Abandoned(2)),
         x(Call::Begin, Outcome::Began(2)),
         x(set3(2, 2, 5), Outcome::Changed),
         x(Call::Held(2), Outcome::Held(1)),
-        x(Call::Held(2), by_store(10, 1)),
+        by_store(Call::Held(2), 10, 1),
         x(Call::Kept(0), Outcome::Kept(0)),
     ];
     let Ok(sizes) = Sizes::check(3, 2, 0) else {
@@ -117,16 +117,13 @@ fn lists_too_short(rt: HostRuntime) -> Result<(), Fail> {
 #[test]
 fn three_before_four(rt: HostRuntime) -> Result<(), Fail> {
     let scene = [
-        x(Call::Read(9, 1), by_store(3, 1)),
-        x(
-            Call::Look(9, 18446744073709551615),
-            by_store(3, 18446744073709551615),
-        ),
-        x(set3(9, 1, 5), by_store(3, 1)),
-        x(Call::Kept(1), by_store(3, 1)),
-        x(Call::Read(9, 0), by_registry(4, 9)),
-        x(Call::Look(9, 0), by_registry(4, 9)),
-        x(set3(9, 0, 5), by_registry(4, 9)),
+        by_store(Call::Read(9, 1), 3, 1),
+        by_store(Call::Look(9, 18446744073709551615), 3, 18446744073709551615),
+        by_store(set3(9, 1, 5), 3, 1),
+        by_store(Call::Kept(1), 3, 1),
+        by_registry(Call::Read(9, 0), 4, 9),
+        by_registry(Call::Look(9, 0), 4, 9),
+        by_registry(set3(9, 0, 5), 4, 9),
         x(Call::Held(9), Outcome::Held(0)),
     ];
     let Ok(sizes) = Sizes::check(1, 1, 0) else {

@@ -56,7 +56,7 @@ fn two_leases_at_one_time(rt: HostRuntime) -> Result<(), Fail> {
         x(Call::Read(0, 0), row3(0)),
         x(Call::Close(0), Outcome::Closed),
         x(Call::Kept(0), Outcome::Kept(0)),
-        x(Call::Close(0), by_registry(4, 0)),
+        by_registry(Call::Close(0), 4, 0),
     ];
     let Ok(sizes) = Sizes::check(1, 1, 0) else {
         return Err(Fail::new("sizes"));
@@ -84,7 +84,7 @@ fn a_session(rt: HostRuntime) -> Result<(), Fail> {
         x(Call::Read(2, 0), row3(8500)),
         x(Call::Kept(0), Outcome::Kept(1)),
         x(Call::Close(2), Outcome::Closed),
-        x(Call::Close(2), by_registry(4, 2)),
+        by_registry(Call::Close(2), 4, 2),
         x(Call::InUse, Outcome::InUse(0)),
     ];
     let Ok(sizes) = Sizes::check(2, 2, 0) else {

@@ -1,5 +1,5 @@
 // A scene: calls with their expected outcomes, on a new store of fields.
-use fields::{Attributes, Fields, Patch, numbers};
+use fields::{Attributes, Fields, Patch};
 use history::call::{Call, Outcome};
 use lease::fault::Layer;
 use lease::registry::Registry;
@@ -9,16 +9,38 @@ use std::alloc::{AllocError, Global};
 use store::making::Fresh;
 use store::sizes::Sizes;
 
+// What must come of a call: its answer, or a refusal's number, layer and place.
+type Due = Result<Outcome<Attributes>, (u8, Layer, u64)>;
+
 // A call, and what must come of it.
 #[derive(Clone, Copy)]
 pub struct Expected {
     pub call: Call<Patch>,
-    pub outcome: Outcome<Attributes>,
+    pub due: Due,
 }
 
-// A call with its expected outcome.
+// A call with its expected answer.
 pub fn x(call: Call<Patch>, outcome: Outcome<Attributes>) -> Expected {
-    Expected { call, outcome }
+    Expected {
+        call,
+        due: Ok(outcome),
+    }
+}
+
+// A call that the store itself must refuse.
+pub fn by_store(call: Call<Patch>, number: u8, place: u64) -> Expected {
+    Expected {
+        call,
+        due: Err((number, Layer::Store, place)),
+    }
+}
+
+// A call that the registry must refuse.
+pub fn by_registry(call: Call<Patch>, number: u8, place: u64) -> Expected {
+    Expected {
+        call,
+        due: Err((number, Layer::Registry, place)),
+    }
 }
 
 // Sets attribute 3 of a record.
@@ -37,40 +59,11 @@ pub fn row3(value: u32) -> Outcome<Attributes> {
     })
 }
 
-// A refusal of the store's own.
-pub fn by_store(number: u8, place: u64) -> Outcome<Attributes> {
-    Outcome::Refused(number, Layer::Store, place)
-}
-
-// A refusal of the registry's.
-pub fn by_registry(number: u8, place: u64) -> Outcome<Attributes> {
-    Outcome::Refused(number, Layer::Registry, place)
-}
-
-fn same_layer(a: Layer, b: Layer) -> bool {
-    match a {
-        Layer::Registry => matches!(b, Layer::Registry),
-        Layer::Store => matches!(b, Layer::Store),
-        Layer::Script => matches!(b, Layer::Script),
-    }
-}
-
-// Whether two outcomes are the same.
-pub fn same(a: Outcome<Attributes>, b: Outcome<Attributes>) -> bool {
-    match a {
-        Outcome::Opened(t) => matches!(b, Outcome::Opened(u) if t == u),
-        Outcome::Shown(row) => matches!(b, Outcome::Shown(other) if numbers(row) == numbers(other)),
-        Outcome::Closed => matches!(b, Outcome::Closed),
-        Outcome::Began(t) => matches!(b, Outcome::Began(u) if t == u),
-        Outcome::Changed => matches!(b, Outcome::Changed),
-        Outcome::Committed(t, n) => matches!(b, Outcome::Committed(u, m) if t == u && n == m),
-        Outcome::Abandoned(n) => matches!(b, Outcome::Abandoned(m) if n == m),
-        Outcome::Held(n) => matches!(b, Outcome::Held(m) if n == m),
-        Outcome::Kept(n) => matches!(b, Outcome::Kept(m) if n == m),
-        Outcome::InUse(n) => matches!(b, Outcome::InUse(m) if n == m),
-        Outcome::Refused(n, layer, place) => {
-            matches!(b, Outcome::Refused(m, other, at) if n == m && place == at && same_layer(layer, other))
-        }
+// What came of a call, with a refusal by its number, layer and place.
+fn told(outcome: Outcome<Attributes>) -> Due {
+    match outcome {
+        Outcome::Refused(fault) => Err((fault.number(), fault.layer(), fault.place)),
+        answer => Ok(answer),
     }
 }
 
@@ -88,10 +81,9 @@ pub fn play<R: Registry + Drop>(
     }
     let fresh: Fresh<Fields> = Fresh::make(heap, sizes)?;
     let (_store, _registry) = run::<Fields, R>(fresh, &mut journal, list);
-    for (i, (turn, expected)) in journal.iter().zip(scene.iter()).enumerate() {
-        if !same(turn.outcome, expected.outcome) {
-            return Ok(i);
-        }
-    }
-    Ok(journal.len())
+    let met = journal
+        .iter()
+        .zip(scene.iter())
+        .take_while(|(turn, expected)| told(turn.outcome) == expected.due);
+    Ok(met.count())
 }

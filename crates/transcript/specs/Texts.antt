@@ -7,6 +7,7 @@
 use Rattle.std.specs.Prelude.{ℕ, List, [], ◌∷◌, ◌++◌, codes, decimal}
 use Rattle.lease.specs.declared.fault.Layer.{Layer}
 use Rattle.lease.specs.Shown.{layer_letter}
+use Rattle.history.specs.Card.{fault_number, fault_layer}
 use Rattle.history.specs.Law.{Told}
 use Rattle.history.specs.declared.call.Outcome.{Outcome}
 use Rattle.history.specs.declared.call.Outcome.TheVariants.{Opened, Shown, Closed, Began, Changed, Committed, Abandoned, Held, Kept, InUse, Refused}
@@ -35,7 +36,7 @@ outcome_line tells k ts (Abandoned n) = codes "abandoned " ++ (decimal n ++ code
 outcome_line tells k ts (Held n) = []
 outcome_line tells k ts (Kept n) = codes "kept " ++ (decimal n ++ (spaced ts ++ codes "\n"))
 outcome_line tells k ts (InUse n) = []
-outcome_line tells k ts (Refused n l p) = refused_text n l p k
+outcome_line tells k ts (Refused f) = refused_text (fault_number f.cause) (fault_layer f.cause) f.place k
 
 abbrev pub outcome_text : {Row : Type 0} → (Row → List ℕ) → ℕ → Told Row → List ℕ
 outcome_text tells k o = outcome_line tells k o.written o.outcome

@@ -94,8 +94,6 @@ pub fn put_outcome<K: ScriptKind>(
         Outcome::Held(_) => Ok(()),
         Outcome::Kept(count) => put_kept(out, count, times),
         Outcome::InUse(_) => Ok(()),
-        Outcome::Refused(number, layer, place) => {
-            Ok(write!(out, "refused {number} {layer} {place} at {line}\n")?)
-        }
+        Outcome::Refused(fault) => Ok(write!(out, "refused {fault} at {line}\n")?),
     }
 }

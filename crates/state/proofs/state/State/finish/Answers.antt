@@ -7,11 +7,11 @@ use Rattle.state.specs.View.{view}
 use Rattle.history.specs.Model.{finish_stored, new_stored}
 use Rattle.state.proofs.Views.{in_records, in_table}
 use Rattle.state.proofs.Falls.{all_changed, finish_keeps}
-use Rattle.state.proofs.Writes.{there, write_sound, write_view, unwritten, finish_one, finish_other, not_by, not_by_none}
+use Rattle.state.proofs.Writes.{there, write_sound, write_view, unwritten, finish_one, finish_other}
 use Rattle.state.proofs.state.State.finish.Goals as goal
 
-pub index-entry-requires : goal.index-entry-requires
-index-entry-requires g c = omega (arith, in_records c.args.self.now c.args.i c.requires.within, c.args.self.now.records.ok.0)
+pub index-requires : goal.index-requires
+index-requires g c = omega (arith, in_records c.args.self.now c.args.i c.requires.within, c.args.self.now.records.ok.0)
 
 pub index_mut-requires : goal.index_mut-requires
 index_mut-requires g c = omega (arith, in_records c.args.self.now c.args.i c.requires.within, c.args.self.now.records.ok.0)
@@ -27,48 +27,37 @@ invariant_of-self g c =
     let i = c.args.i in
     let w = c.args.w in
     let t = c.args.t in
-    let x = c.index-entry.result.now in
+    let x = c.index.result.now in
     let L = get_or (chains s.table) i [] in
     let y : Entry g.row.K-Row.Denot = record { row = x.row; last = t; holder = None } in
     let old = viewed (vec_items s.records) (chains s.table) in
     let latest : t ≡ s.clock = c.requires.latest in
-    let b = there (finish_stored k w t) s i x c.requires.within c.index-entry.ensures in
-    let v = write_view (finish_stored k w t) s i x y (stamped t L) c.stamp.new.table c.requires.within c.index-entry.ensures c.stamp.ensures.stamped (finish_one k w t x c.in-Some.v L c.in-Some.is c.if-v-w.true b) in
+    let b = there (finish_stored k w t) s i x c.requires.within c.index.ensures in
+    let v = write_view (finish_stored k w t) s i x y (stamped t L) c.stamp.new.table c.requires.within c.index.ensures c.stamp.ensures.stamped (finish_one k w t x L (sym c.eq.ensures ∙ c.if-eq.true) b) in
     let falling = subst (λ z. all_fall z (viewed (set (vec_items s.records) i y) (chains c.stamp.new.table)) ≡ true) latest (ap (all_fall t) v ∙ all_changed t (finish_stored k w t) (finish_keeps k t w) old i (subst (λ z. all_fall z old ≡ true) (sym latest) s.falling)) in
-    record { sound = write_sound (finish_stored k w t) s i x y (stamped t L) c.stamp.new.table c.requires.within c.index-entry.ensures c.stamp.ensures.stamped refl; falling = falling; few = ap (λ n. leb n 4096) (length-set (vec_items s.records) i _) ∙ s.few }
+    record { sound = write_sound (finish_stored k w t) s i x y (stamped t L) c.stamp.new.table c.requires.within c.index.ensures c.stamp.ensures.stamped refl; falling = falling; few = ap (λ n. leb n 4096) (length-set (vec_items s.records) i _) ∙ s.few }
 
-pub returns-then-v-w : goal.returns-then-v-w
+pub returns-then-eq : goal.returns-then-eq
 unfolding view
-returns-then-v-w g c =
+returns-then-eq g c =
     let k = g.K.Kind.ops in
     let s = c.args.self.now in
     let i = c.args.i in
     let w = c.args.w in
     let t = c.args.t in
-    let x = c.index-entry.result.now in
+    let x = c.index.result.now in
     let L = get_or (chains s.table) i [] in
-    let b = there (finish_stored k w t) s i x c.requires.within c.index-entry.ensures in
-    let v = write_view (finish_stored k w t) s i x (record { row = x.row; last = t; holder = None }) (stamped t L) c.stamp.new.table c.requires.within c.index-entry.ensures c.stamp.ensures.stamped (finish_one k w t x c.in-Some.v L c.in-Some.is c.if-v-w.true b) in
+    let b = there (finish_stored k w t) s i x c.requires.within c.index.ensures in
+    let v = write_view (finish_stored k w t) s i x (record { row = x.row; last = t; holder = None }) (stamped t L) c.stamp.new.table c.requires.within c.index.ensures c.stamp.ensures.stamped (finish_one k w t x L (sym c.eq.ensures ∙ c.if-eq.true) b) in
     λ j. record { clock = s.clock; room = c.stamp.ensures.room j; records = v j }
 
-pub returns-else-v-w : goal.returns-else-v-w
-returns-else-v-w g c =
+pub returns-else-eq : goal.returns-else-eq
+returns-else-eq g c =
     let k = g.K.Kind.ops in
     let s = c.args.self.now in
     let i = c.args.i in
     let w = c.args.w in
     let t = c.args.t in
-    let x = c.index-entry.result.now in
+    let x = c.index.result.now in
     let L = get_or (chains s.table) i [] in
-    unwritten (finish_stored k w t) s i x (new_stored k 0) c.requires.within c.index-entry.ensures (finish_other k w t x L (not_by w c.in-Some.v x.holder L c.in-Some.is c.if-v-w.false))
-
-pub returns-in_default : goal.returns-in_default
-returns-in_default g c =
-    let k = g.K.Kind.ops in
-    let s = c.args.self.now in
-    let i = c.args.i in
-    let w = c.args.w in
-    let t = c.args.t in
-    let x = c.index-entry.result.now in
-    let L = get_or (chains s.table) i [] in
-    unwritten (finish_stored k w t) s i x (new_stored k 0) c.requires.within c.index-entry.ensures (finish_other k w t x L (not_by_none w x.holder L c.in_default.is))
+    unwritten (finish_stored k w t) s i x (new_stored k 0) c.requires.within c.index.ensures (finish_other k w t x L (sym c.eq.ensures ∙ c.if-eq.false))

@@ -5,7 +5,7 @@ use Rattle.state.proofs.state.State.place_of.Goals as goal
 
 pub returns-then-record-len : goal.returns-then-record-len
 unfolding Placed
-returns-then-record-len g c = (omega (arith, view-rows c.args.self.now, c.if-record-len.true), refl)
+returns-then-record-len g c = (omega (arith, view-rows c.args.self.now, c.if-record-len.true), c.at.ensures)
 
 pub returns : goal.returns
 unfolding Placed

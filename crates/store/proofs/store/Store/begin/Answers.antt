@@ -16,7 +16,7 @@ unfolding Begins
 returns-then-now g c =
     let m = view c.args.self.now in
     let u = c.clock-now.ensures in (
-      comes (eqb m.clock limit) (clock_limit m.clock) (refused_open g.R.Registry.capacity (g.R.Registry.leases c.args.registry.now)) (eq-eqb m.clock limit (sym u ∙ c.if-now.true)) ∙ ap (λ t. Some (clock_limit t)) (sym u),
+      comes (eqb m.clock limit) (clock_limit m.clock) (refused_open g.R.Registry.capacity (g.R.Registry.leases c.args.registry.now)) (eq-eqb m.clock limit (sym u ∙ c.if-now.true)) ∙ ap (λ t. Some (clock_limit t)) (sym (c.from.ensures ∙ u)) ∙ ap Some (sym c.at.ensures),
       refl,
       refl,
     )

@@ -29,7 +29,7 @@ returns-then-now g c =
     let ls = g.R.Registry.leases c.args.registry.now in
     let b = ltb 0 (held_number w m) && eqb m.clock limit in (
       is_open ls w (or_else b (clock_limit m.clock) None) c.in_ok-ask.ensures
-          ∙ comes b (clock_limit m.clock) None (at_limit m c.args.n w c.requires c.if-n-gt0.true (sym u ∙ c.if-now.true)) ∙ ap (λ t. Some (clock_limit t)) (sym u),
+          ∙ comes b (clock_limit m.clock) None (at_limit m c.args.n w c.requires c.if-n-gt0.true (sym u ∙ c.if-now.true)) ∙ ap (λ t. Some (clock_limit t)) (sym (c.from.ensures ∙ u)) ∙ ap Some (sym c.at.ensures),
       refl,
     )
 

@@ -13,7 +13,7 @@ returns-then-out-needed g c =
     let n = c.holds-needed.ensures ∙ ap (λ z. held_number z m) c.number-w.ensures in
     let v = held_number c.args.writer.now.number m in
     let given = length c.args.out.now in
-    (comes (ltb given v) (list_short v) None (lt-ltb given v (omega (arith, n, c.if-out-needed.true))) ∙ ap (λ z. Some (list_short z)) (sym n), refl)
+    (comes (ltb given v) (list_short v) None (lt-ltb given v (omega (arith, n, c.if-out-needed.true))) ∙ ap (λ z. Some (list_short z)) (sym n) ∙ ap Some (sym c.at.ensures), refl)
 
 pub write_held-requires : goal.write_held-requires
 write_held-requires g c = omega (arith, c.holds-needed.ensures, c.if-out-needed.false)

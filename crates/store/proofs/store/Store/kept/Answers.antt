@@ -34,7 +34,7 @@ returns-then-out-needed g c =
     let v = length (record_at k m c.args.record).chain in
     let given = length c.args.out.now in (
       such m c.args.record (or_else (ltb given v) (list_short v) None) e.0
-          ∙ comes (ltb given v) (list_short v) None (lt-ltb given v (omega (arith, n, c.if-out-needed.true))) ∙ ap (λ z. Some (list_short z)) (sym n),
+          ∙ comes (ltb given v) (list_short v) None (lt-ltb given v (omega (arith, n, c.if-out-needed.true))) ∙ ap (λ z. Some (list_short z)) (sym n) ∙ ap Some (sym c.at.ensures),
       refl,
     )
 
