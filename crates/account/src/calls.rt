@@ -24,7 +24,7 @@ pub fn make_each<K: Kind, R: Registry>(
     writer: &Writer,
     edits: &[RecordEdit<K::Edit>],
 ) -> Result<(), StoreFault>
-    ensures { change_each K.ops (view store.old) (R.leases registry.now) writer.now.number edits.now ≡ made (refusal_of result) (view store.new) }
+    ensures { change_each K.ops (view store.old) (R.leases registry.now) writer.now.time edits.now ≡ made (refusal_of result) (view store.new) }
 {
     for one in edits {
         if let Err(fault) = store.change(registry, writer, one.record, one.edit) {
@@ -40,7 +40,7 @@ pub fn commit_or_abandon<K: Kind, R: Registry>(
     registry: &mut R,
     writer: Writer,
 ) -> Result<(u32, usize), StoreFault>
-    ensures { R.leases registry.new ≡ delete writer.number (R.leases registry.old) }
+    ensures { R.leases registry.new ≡ delete writer.time (R.leases registry.old) }
 {
     match store.commit(registry, writer) {
         Ok(done) => Ok(done),

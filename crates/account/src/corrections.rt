@@ -3,7 +3,6 @@ use crate::finishing::{differing, finish, row_at};
 use chain::version::Version;
 use fields::{Attributes, Fields, Patch};
 use kind::Kind;
-use lease::leasing::{close_lease, open_lease};
 use lease::registry::Registry;
 use lease::token::Lease;
 use slot_table::SlotTable;
@@ -82,7 +81,7 @@ fn weigh(
 }
 
 fn open_report(rt: &impl Print, truck: &mut Truck, time: u32) -> io::Result<()> {
-    match open_lease(&mut truck.registry, time) {
+    match Lease::open(&mut truck.registry, time) {
         Ok(lease) => {
             let at = lease.write_down();
             println!(rt; "A report is opened at {at}.")
@@ -92,7 +91,7 @@ fn open_report(rt: &impl Print, truck: &mut Truck, time: u32) -> io::Result<()> 
 }
 
 fn close_report(rt: &impl Print, truck: &mut Truck, time: u32, left: &[u32]) -> io::Result<()> {
-    if let Err(fault) = close_lease(&mut truck.registry, Lease::take_up(time)) {
+    if let Err(fault) = Lease::take_up(time).close(&mut truck.registry) {
         return println!(rt; "The report at {time} is refused: {fault}.");
     }
     let before = truck.table.used();

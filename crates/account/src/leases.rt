@@ -1,5 +1,4 @@
 use crate::asking::{ask, fill};
-use lease::leasing::{close_lease, open_lease};
 use lease::registry::Registry;
 use lease::token::Lease;
 use slot_table::SlotTable;
@@ -18,7 +17,7 @@ fn show_standing<R: Registry>(rt: &impl Print, registry: &R, time: u32) -> io::R
 }
 
 fn open_one<R: Registry>(rt: &impl Print, registry: &mut R, time: u32) -> io::Result<()> {
-    match open_lease(registry, time) {
+    match Lease::open(registry, time) {
         Ok(lease) => {
             let at = lease.write_down();
             print!(rt; "  opened at {at}")?;
@@ -29,7 +28,7 @@ fn open_one<R: Registry>(rt: &impl Print, registry: &mut R, time: u32) -> io::Re
 }
 
 fn close_one<R: Registry>(rt: &impl Print, registry: &mut R, time: u32) -> io::Result<()> {
-    match close_lease(registry, Lease::take_up(time)) {
+    match Lease::take_up(time).close(registry) {
         Ok(_) => print!(rt; "  closed at {time}")?,
         Err(fault) => print!(rt; "  not closed at {time}, refused {fault}")?,
     }

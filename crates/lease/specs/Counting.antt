@@ -8,7 +8,7 @@
 --     Abandoned         the same of ending a writer's lease if one is open: true if one was
 use Rattle.std.specs.Prelude.{◌≡◌, ℕ, ◌+◌, ◌<◌, ◌≤◌, Bool, true, false, List, length, Some, None, Ok, Err, Option, Result, ◌≢◌}
 use Rattle.lease.specs.declared.fault.RegistryFault.{RegistryFault}
-use Rattle.lease.specs.declared.token.Writer.{Writer}
+use Rattle.lease.specs.Tokens.{Writer}
 use Rattle.lease.specs.Card.{none_open, full}
 use Rattle.lease.specs.Times.{count}
 
@@ -38,8 +38,8 @@ Taken P capacity m t s (Ok w) s' = P w × (length (m s) < capacity) × OneMore t
 Taken P capacity m t s (Err e) s' = (length (m s) ≡ capacity) × (e ≡ full capacity) × (s' ≡ s)
 
 abbrev pub GivenUp : {S U : Type 0} → (S → List ℕ) → Writer → S → Result U (RegistryFault × Writer) → S → Type 0
-GivenUp m w s (Ok u) s' = (0 < count w.number (m s)) × OneLess w.number (m s) (m s')
-GivenUp m w s (Err p) s' = (count w.number (m s) ≡ 0) × (p.0 ≡ none_open w.number) × (p.1 ≡ w) × (s' ≡ s)
+GivenUp m w s (Ok u) s' = (0 < count w.time (m s)) × OneLess w.time (m s) (m s')
+GivenUp m w s (Err p) s' = (count w.time (m s) ≡ 0) × (p.0 ≡ none_open w.time) × (p.1 ≡ w) × (s' ≡ s)
 
 abbrev pub Abandoned : {S : Type 0} → (S → List ℕ) → ℕ → S → Bool → S → Type 0
 Abandoned m n s true s' = (0 < count n (m s)) × OneLess n (m s) (m s')

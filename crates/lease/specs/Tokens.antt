@@ -1,12 +1,15 @@
--- Tokens that are still to be spent.
---     At t l    the report's lease l is at the time t, and not spent
---     Of n w    the writer w has the number n, and is not spent
+-- Tokens that are still to be spent: a report's lease, and a writer, whose number is its time.
+--     At t token    the token is at the time t, and not spent
 use Rattle.std.specs.Prelude.{◌≡◌, ℕ, false}
-use Rattle.lease.specs.declared.token.Lease.{Lease}
-use Rattle.lease.specs.declared.token.Writer.{Writer}
+use Rattle.lease.specs.declared.token.Report.{Report}
+use Rattle.lease.specs.declared.token.Writing.{Writing}
+use Rattle.lease.specs.declared.token.Token.{Token}
 
-abbrev pub At : ℕ → Lease → Type 0
-At t l = (l.time ≡ t) × (l.spent ≡ false)
+abbrev pub Lease : Type 0
+Lease = Token Report
 
-abbrev pub Of : ℕ → Writer → Type 0
-Of n w = (w.number ≡ n) × (w.spent ≡ false)
+abbrev pub Writer : Type 0
+Writer = Token Writing
+
+abbrev pub At : {Use : Type 0} → ℕ → Token Use → Type 0
+At t token = (token.time ≡ t) × (token.spent ≡ false)

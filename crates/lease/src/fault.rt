@@ -59,8 +59,7 @@ impl RegistryFault {
         ensures { result ≡ cause_layer self.now.cause }
     {
         match self.cause {
-            RegistryCause::NoneOpen => Layer::Registry,
-            RegistryCause::Full => Layer::Registry,
+            RegistryCause::NoneOpen | RegistryCause::Full => Layer::Registry,
         }
     }
 }

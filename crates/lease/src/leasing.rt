@@ -1,60 +1,55 @@
 // Leases given out as tokens, in any registry: a report's, and a writer's, which is open at its number.
 ghost use Rattle.lease.specs.Counting.{Ended, Taken, GivenUp, Abandoned};
-ghost use Rattle.lease.specs.Tokens.{At, Of};
+ghost use Rattle.lease.specs.Tokens.{At};
 
 use crate::counting::{end_at, open_at};
 use crate::fault::RegistryFault;
 use crate::registry::Registry;
-use crate::token::{Lease, Writer};
+use crate::token::{Lease, Token, Writer};
 
-// Opens a report's lease at a time.
-pub fn open_lease<R: Registry>(registry: &mut R, time: u32) -> Result<Lease, RegistryFault>
-    ensures { Taken (At time) R.capacity R.leases time registry.old result registry.new }
-{
-    open_at(registry, time)?;
-    Ok(Lease::take_up(time))
-}
-
-// Closes a report's lease, which is used up, also when that is refused.
-pub fn close_lease<R: Registry>(registry: &mut R, lease: Lease) -> Result<(), RegistryFault>
-    ensures { Ended R.leases lease.time registry.old result registry.new }
-{
-    end_at(registry, lease.write_down())
-}
-
-// Opens a lease at a number, and gives it out as a writer.
-pub fn begin_writer<R: Registry>(registry: &mut R, number: u32) -> Result<Writer, RegistryFault>
-    ensures { Taken (Of number) R.capacity R.leases number registry.old result registry.new }
-{
-    open_at(registry, number)?;
-    Ok(Writer::take_up(number))
-}
-
-// Ends a writer's lease; refused, the writer is given back.
-pub fn end_writer<R: Registry>(
-    registry: &mut R,
-    writer: Writer,
-) -> Result<(), (RegistryFault, Writer)>
-    ensures { GivenUp R.leases writer registry.old result registry.new }
-{
-    match end_at(registry, writer.number()) {
-        Ok(()) => {
-            writer.write_down();
-            Ok(())
-        }
-        Err(fault) => Err((fault, writer)),
+impl<Use> Token<Use> {
+    // Opens a lease at a time, and gives it out as a token.
+    pub fn open<R: Registry>(registry: &mut R, time: u32) -> Result<Token<Use>, RegistryFault>
+        ensures { Taken (At time) R.capacity R.leases time registry.old result registry.new }
+    {
+        open_at(registry, time)?;
+        Ok(Token::take_up(time))
     }
 }
 
-// Ends a writer's lease if one is open, and tells whether; the writer is used up in any case.
-pub fn abandon_writer<R: Registry>(registry: &mut R, writer: Writer) -> bool
-    ensures { Abandoned R.leases writer.number registry.old result registry.new }
-{
-    match end_writer(registry, writer) {
-        Ok(()) => true,
-        Err((_, back)) => {
-            back.write_down();
-            false
+impl Lease {
+    // Closes a report's lease, which is used up, also when that is refused.
+    pub fn close<R: Registry>(self, registry: &mut R) -> Result<(), RegistryFault>
+        ensures { Ended R.leases self.time registry.old result registry.new }
+    {
+        end_at(registry, self.write_down())
+    }
+}
+
+impl Writer {
+    // Ends a writer's lease; refused, the writer is given back.
+    pub fn end<R: Registry>(self, registry: &mut R) -> Result<(), (RegistryFault, Writer)>
+        ensures { GivenUp R.leases self registry.old result registry.new }
+    {
+        match end_at(registry, self.number()) {
+            Ok(()) => {
+                self.write_down();
+                Ok(())
+            }
+            Err(fault) => Err((fault, self)),
+        }
+    }
+
+    // Ends a writer's lease if one is open, and tells whether; the writer is used up in any case.
+    pub fn abandon<R: Registry>(self, registry: &mut R) -> bool
+        ensures { Abandoned R.leases self.time registry.old result registry.new }
+    {
+        match self.end(registry) {
+            Ok(()) => true,
+            Err((_, back)) => {
+                back.write_down();
+                false
+            }
         }
     }
 }

@@ -1,36 +1,59 @@
+// Tokens that must be spent: a report's lease, and a writer.
 ghost use Rattle.std.specs.Prelude.{◌≡◌, true};
-ghost use Rattle.lease.specs.Tokens.{At, Of};
+ghost use Rattle.lease.specs.Tokens.{At};
 
-// A report's lease. It may be let go only once it is spent: by closing it, or by writing it down.
-pub struct Lease {
+use std::marker::PhantomData;
+
+// What a lease is for: a report reads at its time.
+pub struct Report;
+
+// What a writer is for: it writes under its number, which is its time.
+pub struct Writing;
+
+pub type Lease = Token<Report>;
+
+pub type Writer = Token<Writing>;
+
+// A token for one open lease. It may be let go only once it is spent: by the call that uses it up,
+// or by writing it down.
+pub struct Token<Use> {
     time: u32,
     spent: bool,
+    used_for: PhantomData<Use>,
 }
 
-impl Drop for Lease {
+impl<Use> Drop for Token<Use> {
     fn drop(self)
         requires { self.spent ≡ true }
     {
-        let Lease { time: _, spent: _ } = self;
+        let Token {
+            time: _,
+            spent: _,
+            used_for: _,
+        } = self;
     }
 }
 
-impl Lease {
-    // Takes a time up as a lease; whether a lease is open there is seen when a call is made.
-    pub fn take_up(time: u32) -> Lease
+impl<Use> Token<Use> {
+    // Takes a time up as a token; whether a lease is open there is seen when a call is made.
+    pub fn take_up(time: u32) -> Token<Use>
         ensures { At time result }
     {
-        Lease { time, spent: false }
+        Token {
+            time,
+            spent: false,
+            used_for: PhantomData,
+        }
     }
 
-    // The lease's time, without spending it.
+    // The token's time, without spending it.
     pub fn time(&self) -> u32
         ensures { result ≡ self.now.time }
     {
         self.time
     }
 
-    // Spends the lease, and gives its time back.
+    // Spends the token, and gives its time back.
     pub fn write_down(mut self) -> u32
         ensures { result ≡ self.time }
     {
@@ -40,47 +63,11 @@ impl Lease {
     }
 }
 
-// A writer, whose number is its time. It is spent by committing, abandoning or writing it down.
-pub struct Writer {
-    number: u32,
-    spent: bool,
-}
-
-impl Drop for Writer {
-    fn drop(self)
-        requires { self.spent ≡ true }
-    {
-        let Writer {
-            number: _,
-            spent: _,
-        } = self;
-    }
-}
-
 impl Writer {
-    // Takes a number up as a writer; whether a lease is open there is seen when a call is made.
-    pub fn take_up(number: u32) -> Writer
-        ensures { Of number result }
-    {
-        Writer {
-            number,
-            spent: false,
-        }
-    }
-
     // The writer's number, without spending it.
     pub fn number(&self) -> u32
-        ensures { result ≡ self.now.number }
+        ensures { result ≡ self.now.time }
     {
-        self.number
-    }
-
-    // Spends the writer, and gives its number back.
-    pub fn write_down(mut self) -> u32
-        ensures { result ≡ self.number }
-    {
-        let number = self.number;
-        self.spent = true;
-        number
+        self.time()
     }
 }

@@ -1,7 +1,7 @@
 // One list of adds and removes, with every answer that is expected after each.
 use lease::registry::Registry;
 
-#[derive(Clone, Copy)]
+#[derive(Clone, Copy, PartialEq, Eq, Debug)]
 pub enum Call {
     Add(u32),
     Remove(u32),
@@ -9,7 +9,7 @@ pub enum Call {
 
 // A call; whether it is refused, with number and place; then the answers to the three questions: how many
 // leases are open at the call's time, how many in all, and the least open time at or above the call's time.
-#[derive(Clone, Copy)]
+#[derive(Clone, Copy, PartialEq, Eq, Debug)]
 pub struct Step {
     pub call: Call,
     pub refused: Option<(u8, u32)>,
@@ -20,18 +20,11 @@ pub struct Step {
 
 // What a registry answers to a call and then to the three questions.
 pub fn answer<R: Registry>(registry: &mut R, call: Call) -> Step {
-    let time = match call {
-        Call::Add(time) => time,
-        Call::Remove(time) => time,
+    let (time, result) = match call {
+        Call::Add(time) => (time, registry.add(time)),
+        Call::Remove(time) => (time, registry.remove(time)),
     };
-    let result = match call {
-        Call::Add(time) => registry.add(time),
-        Call::Remove(time) => registry.remove(time),
-    };
-    let refused = match result {
-        Ok(()) => None,
-        Err(fault) => Some((fault.number(), fault.place)),
-    };
+    let refused = result.err().map(|fault| (fault.number(), fault.place));
     Step {
         call,
         refused,

@@ -1,5 +1,4 @@
 // Tokens: taken, spent, written down and taken up again.
-use lease::leasing::{abandon_writer, begin_writer, close_lease, end_writer, open_lease};
 use lease::registry::Registry;
 use lease::token::{Lease, Writer};
 use slot_table::SlotTable;
@@ -8,14 +7,14 @@ use std::test::Fail;
 #[test]
 fn written_down_and_taken_up(rt: HostRuntime) -> Result<(), Fail> {
     let mut registry = SlotTable::empty();
-    let Ok(lease) = open_lease(&mut registry, 12) else {
+    let Ok(lease) = Lease::open(&mut registry, 12) else {
         return Err(Fail::new("no lease"));
     };
     let time = lease.write_down();
     assert_eq!(rt; time, 12);
     assert_eq!(rt; registry.count_at(12), 1);
-    assert!(rt; close_lease(&mut registry, Lease::take_up(time)).is_ok());
-    let Err(fault) = close_lease(&mut registry, Lease::take_up(time)) else {
+    assert!(rt; Lease::take_up(time).close(&mut registry).is_ok());
+    let Err(fault) = Lease::take_up(time).close(&mut registry) else {
         return Err(Fail::new("closed twice"));
     };
     assert_eq!(rt; fault.number(), 4);
@@ -26,12 +25,12 @@ fn written_down_and_taken_up(rt: HostRuntime) -> Result<(), Fail> {
 #[test]
 fn a_refused_writer_comes_back(rt: HostRuntime) -> Result<(), Fail> {
     let mut registry = SlotTable::empty();
-    let Ok(writer) = begin_writer(&mut registry, 3) else {
+    let Ok(writer) = Writer::open(&mut registry, 3) else {
         return Err(Fail::new("no writer"));
     };
     // An early `?` would let the writer go: none stands here until it is spent.
     let removed = registry.remove(writer.number()).is_ok();
-    let Err((fault, back)) = end_writer(&mut registry, writer) else {
+    let Err((fault, back)) = writer.end(&mut registry) else {
         return Err(Fail::new("ended without a lease"));
     };
     let number = back.write_down();
@@ -39,8 +38,8 @@ fn a_refused_writer_comes_back(rt: HostRuntime) -> Result<(), Fail> {
     assert_eq!(rt; number, 3);
     assert_eq!(rt; fault.place, 3);
     assert!(rt; registry.add(3).is_ok());
-    assert!(rt; abandon_writer(&mut registry, Writer::take_up(number)));
-    assert!(rt; !abandon_writer(&mut registry, Writer::take_up(number)));
+    assert!(rt; Writer::take_up(number).abandon(&mut registry));
+    assert!(rt; !Writer::take_up(number).abandon(&mut registry));
     assert_eq!(rt; registry.total(), 0);
     Ok(())
 }

@@ -1,11 +1,21 @@
--- What one slot's change does to a table's meaning, and the questions over the slots that a loop has passed.
-use Rattle.std.proofs.Common.{◌≡◌, ℕ, zero, suc, ◌+◌, ◌<◌, ◌≤◌, true, false, cond, eqb, leb, List, [], ◌∷◌, length, get_or, drop, set, is_some, Some, None, Option, sym, refl, ap, ◌∙◌, arith}
-use Rattle.std.proofs.lemmas.List.{at_drop_more, at_drop_all, get_or-set_same, set-set, set-get_or, length-set}
-use Rattle.std.proofs.lemmas.Bool.{le-leb}
+-- What one slot's change does to a table's meaning, and what a search over the slots finds.
+use Rattle.std.proofs.Common.{◌≡◌, ℕ, zero, suc, ◌+◌, ◌<◌, ◌≤◌, Bool, not, true, false, cond, eqb, leb, List, [], ◌∷◌, length, get_or, set, is_some, Some, None, Option, sym, refl, ap, ◌∙◌, arith}
+use Rattle.std.proofs.lemmas.List.{get_or-set_same, set-set, set-get_or, length-set}
 use Rattle.std.proofs.lemmas.Bool.Decides.{nat_tests}
+use Rattle.std.specs.List.{position, position_from}
+use Rattle.std.proofs.lemmas.List.Quantifiers.{position-Some}
+use Rattle.std.proofs.lemmas.Iterator.Adapters.{position_from-zero}
 use Rattle.lease.specs.Times.{insert, delete, count, least, sooner}
 use Rattle.lease.proofs.Bags.{insert_comm, delete-insert, length-insert, count-insert, least-insert}
-use Rattle.slot_table.specs.Slots.{taken, sorted, slot_times}
+use Rattle.slot_table.specs.Slots.{taken, sorted, slot_times, Free, Holding}
+
+-- what the searches ask of a slot
+abbrev pub empty : Option ℕ → Bool
+empty o = not (is_some o)
+
+abbrev pub holds : ℕ → Option ℕ → Bool
+holds t None = false
+holds t (Some u) = eqb u t
 
 pub length-sorted : (l : List ℕ) → length (sorted l) ≡ length l
 length-sorted [] = refl
@@ -28,15 +38,6 @@ times-set (None ∷ xs) (suc i) t h e = times-set xs i t (omega arith) e
 times-set (Some u ∷ xs) (suc i) t h e =
     ap (insert u) (times-set xs i t (omega arith) e) ∙ insert_comm u t (slot_times xs)
 
-pub taken_some : (xs : List (Option ℕ)) (i u : ℕ) → i < length xs → get_or xs i None ≡ Some u → taken (drop i xs) ≡ u ∷ taken (drop (i + 1) xs)
-taken_some xs i u h e = at_drop_more taken xs i None h ∙ ap (λ o. taken (o ∷ drop (i + 1) xs)) e
-
-pub taken_none : (xs : List (Option ℕ)) (i : ℕ) → i < length xs → get_or xs i None ≡ None → taken (drop i xs) ≡ taken (drop (i + 1) xs)
-taken_none xs i h e = at_drop_more taken xs i None h ∙ ap (λ o. taken (o ∷ drop (i + 1) xs)) e
-
-pub taken_all : (xs : List (Option ℕ)) (i : ℕ) → length xs ≤ i → taken (drop i xs) ≡ []
-taken_all xs i h = at_drop_all taken xs i h
-
 pub times_clear : (xs : List (Option ℕ)) (i t : ℕ) → i < length xs → get_or xs i None ≡ Some t → slot_times (set xs i None) ≡ delete t (slot_times xs)
 times_clear xs i t h e =
     let ys : List (Option ℕ) = set xs i None in
@@ -44,20 +45,6 @@ times_clear xs i t h e =
     let back : set ys i (Some t) ≡ xs = set-set xs i None (Some t) ∙ ap (set xs i) (sym e) ∙ set-get_or xs i None in
     let l : i < length ys = simp length-set h in
     sym (delete-insert t (slot_times ys)) ∙ ap (delete t) (sym (times-set ys i t l n)) ∙ ap (λ zs. delete t (slot_times zs)) back
-
-full_head : (o : Option ℕ) (ys : List (Option ℕ)) → true ≡ is_some o → length (taken (o ∷ ys)) ≡ suc (length (taken ys))
-full_head None ys e = let z : ◌≡◌ {A = ℕ} 0 1 = cc in absurd (omega arith)
-full_head (Some x) ys e = refl
-
-empty_head : (o : Option ℕ) (ys : List (Option ℕ)) → false ≡ is_some o → length (taken (o ∷ ys)) ≡ length (taken ys)
-empty_head None ys e = refl
-empty_head (Some x) ys e = let z : ◌≡◌ {A = ℕ} 0 1 = cc in absurd (omega arith)
-
-pub length-full : (xs : List (Option ℕ)) (i : ℕ) → i < length xs → true ≡ is_some (get_or xs i None) → length (taken (drop i xs)) ≡ suc (length (taken (drop (i + 1) xs)))
-length-full xs i h e = ap length (at_drop_more taken xs i None h) ∙ full_head (get_or xs i None) (drop (i + 1) xs) e
-
-pub length_empty : (xs : List (Option ℕ)) (i : ℕ) → i < length xs → false ≡ is_some (get_or xs i None) → length (taken (drop i xs)) ≡ length (taken (drop (i + 1) xs))
-length_empty xs i h e = ap length (at_drop_more taken xs i None h) ∙ empty_head (get_or xs i None) (drop (i + 1) xs) e
 
 -- how many are taken is at most how many there are, and is less where one is empty
 pub taken-room : (xs : List (Option ℕ)) → length (taken xs) ≤ length xs
@@ -79,9 +66,28 @@ taken-holds (Some u ∷ xs) zero t h e = let k : u ≡ t = cc in grind (arith, n
 taken-holds (None ∷ xs) (suc i) t h e = taken-holds xs i t (omega arith) e
 taken-holds (Some u ∷ xs) (suc i) t h e = omega (arith, taken-holds xs i t (omega arith) e)
 
-pub least_some : (t : ℕ) (xs : List (Option ℕ)) (i u : ℕ) → i < length xs → get_or xs i None ≡ Some u → t ≤ u → least t (taken (drop i xs)) ≡ sooner (Some u) (least t (taken (drop (i + 1) xs)))
-least_some t xs i u h e l =
-    ap (least t) (taken_some xs i u h e) ∙ ap (λ b. cond b (sooner (Some u) (least t (taken (drop (i + 1) xs)))) (least t (taken (drop (i + 1) xs)))) (le-leb t u l)
+all_taken : (xs : List (Option ℕ)) (n : ℕ) → position_from empty n xs ≡ None → length (taken xs) ≡ length xs
+all_taken [] n e = refl
+all_taken (None ∷ xs) n e = let z : ◌≡◌ {A = ℕ} 0 1 = cc in absurd (omega arith)
+all_taken (Some t ∷ xs) n e = omega (arith, all_taken xs (n + 1) e)
 
-pub first_step : (best next a r l : Option ℕ) (u : ℕ) → best ≡ None → next ≡ Some u → a ≡ sooner (Some u) r → sooner best a ≡ l → sooner next r ≡ l
-first_step best next a r l u b n e inv = ap (λ o. sooner o r) n ∙ sym e ∙ ap (λ o. sooner o a) (sym b) ∙ inv
+none_taken : (o : Option ℕ) → empty o ≡ true → o ≡ None
+none_taken None e = refl
+none_taken (Some t) e = let z : ◌≡◌ {A = ℕ} 0 1 = cc in absurd (omega arith)
+
+pub found_free : (xs : List (Option ℕ)) (o : Option ℕ) → o ≡ position empty xs → Free xs o
+found_free xs None e = all_taken xs 0 (sym (position_from-zero empty xs) ∙ sym e)
+found_free xs (Some i) e = let f = position-Some empty xs i None (sym e) in (f.0, none_taken (get_or xs i None) f.1)
+
+no_holder : (t : ℕ) (xs : List (Option ℕ)) (n : ℕ) → position_from (holds t) n xs ≡ None → count t (taken xs) ≡ 0
+no_holder t [] n e = refl
+no_holder t (None ∷ xs) n e = no_holder t xs (n + 1) e
+no_holder t (Some u ∷ xs) n e = let ih = no_holder t xs (n + 1) in grind (arith, nat_tests)
+
+held_there : (t : ℕ) (o : Option ℕ) → holds t o ≡ true → o ≡ Some t
+held_there t None e = let z : ◌≡◌ {A = ℕ} 0 1 = cc in absurd (omega arith)
+held_there t (Some u) e = let k : u ≡ t = grind (arith, nat_tests) in ap (λ n. Some n) k
+
+pub found_holder : (t : ℕ) (xs : List (Option ℕ)) (o : Option ℕ) → o ≡ position (holds t) xs → Holding t xs o
+found_holder t xs None e = no_holder t xs 0 (sym (position_from-zero (holds t) xs) ∙ sym e)
+found_holder t xs (Some i) e = let f = position-Some (holds t) xs i None (sym e) in (f.0, held_there t (get_or xs i None) f.1)

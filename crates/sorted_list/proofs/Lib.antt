@@ -1,5 +1,4 @@
-mod Places
 mod Meaning
+mod Searching
 mod Placing
 mod Changing
-mod Taking

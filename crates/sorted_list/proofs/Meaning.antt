@@ -1,12 +1,13 @@
--- Entries in rising order: what they mean, and how the questions are answered from the first entry that fits.
-use Rattle.std.proofs.Common.{◌≡◌, ℕ, zero, suc, ◌+◌, ◌-◌, ◌<◌, ◌≤◌, true, cond, not, ◌&&◌, List, [], ◌∷◌, length, get_or, take, drop, Some, None, Option, sym, refl, ap, ◌∙◌, ⊎_elim, arith}
+-- Entries in rising order: what they mean, and how the questions are answered from the place that a search finds.
+use Rattle.std.proofs.Common.{◌≡◌, ℕ, zero, suc, ◌+◌, ◌-◌, ◌<◌, ◌≤◌, true, cond, ltb, List, [], ◌∷◌, length, get_or, Some, None, Option, sym, refl, ap, ◌∙◌, ⊎_elim, arith}
+use Rattle.std.specs.List.{sum_by}
 use Rattle.std.proofs.lemmas.Bool.Decides.{nat_tests}
-use Rattle.std.proofs.lemmas.Bool.{ne_eqb, lt-leb, le-leb, cases_lt, cases_eq}
-use Rattle.std.proofs.lemmas.List.{at_drop_more, length-take-le}
+use Rattle.std.proofs.lemmas.Bool.{lt-leb, le-leb, cases_lt}
+use Rattle.std.proofs.lemmas.List.Sums.{sum_by-cons}
 use Rattle.lease.specs.Times.{insert, count, least, sooner}
 use Rattle.lease.proofs.Bags.{insert_comm, length-insert, count-insert, least-insert}
-use Rattle.sorted_list.specs.declared.entry.Entry.{Entry}
-use Rattle.sorted_list.specs.Entries.{many, times, size, rising, ahead, absent, no_entry}
+use Rattle.sorted_list.specs.declared.Entry.{Entry}
+use Rattle.sorted_list.specs.Entries.{many, times, size, rising, ahead, no_entry, Gap}
 
 length-many : (n t : ℕ) (l : List ℕ) → length (many n t l) ≡ n + length l
 length-many zero t l = omega arith
@@ -16,6 +17,10 @@ pub length-times : (es : List Entry) → length (times es) ≡ size es
 length-times [] = refl
 length-times (e ∷ es) = omega (arith, length-many e.count e.time (times es), length-times es)
 
+pub sum-size : (es : List Entry) → size es ≡ sum_by (λ (e : Entry). e.count) es
+sum-size [] = refl
+sum-size (e ∷ es) = ap (λ n. e.count + n) (sum-size es) ∙ sym (sum_by-cons (λ (x : Entry). x.count) e es)
+
 pub insert-many : (u n t : ℕ) (l : List ℕ) → insert u (many n t l) ≡ many n t (insert u l)
 insert-many u zero t l = refl
 insert-many u (suc n) t l = insert_comm u t (many n t l) ∙ ap (insert t) (insert-many u n t l)
@@ -24,18 +29,16 @@ pub many-many : (m t n u : ℕ) (l : List ℕ) → many m t (many n u l) ≡ man
 many-many zero t n u l = refl
 many-many (suc m) t n u l = ap (insert t) (many-many m t n u l) ∙ insert-many t n u (many m t l)
 
-pub count_le_size : (es : List Entry) (i : ℕ) (d : Entry) → i < length es → (get_or es i d).count ≤ size es
-count_le_size [] i d h = absurd (omega arith)
-count_le_size (e ∷ es) zero d h = omega arith
-count_le_size (e ∷ es) (suc i) d h = omega (arith, count_le_size es i d (omega arith))
-
-length_le_size : (es : List Entry) → rising es ≡ true → length es ≤ size es
-length_le_size [] r = omega arith
-length_le_size (e ∷ es) r = let ih = length_le_size es in grind (arith, nat_tests)
+-- an entry has at most as many leases as there are in all
+pub count_le_size : (es : List Entry) (i : ℕ) → i < length es → (get_or es i no_entry).count ≤ size es
+count_le_size [] i h = absurd (omega arith)
+count_le_size (e ∷ es) zero h = omega arith
+count_le_size (e ∷ es) (suc i) h = omega (arith, count_le_size es i (omega arith))
 
 -- as many places as leases are enough
-pub len_le_size : (xs : List Entry) (len : ℕ) → len ≤ length xs → rising (take len xs) ≡ true → len ≤ size (take len xs)
-len_le_size xs len h r = omega (arith, length-take-le len xs h, length_le_size (take len xs) r)
+pub length_le_size : (es : List Entry) → rising es ≡ true → length es ≤ size es
+length_le_size [] r = omega arith
+length_le_size (e ∷ es) r = let ih = length_le_size es in grind (arith, nat_tests)
 
 pub rising_tail : (e : Entry) (es : List Entry) → rising (e ∷ es) ≡ true → rising es ≡ true
 rising_tail e es r = grind (arith, nat_tests)
@@ -45,20 +48,30 @@ positive [] i h r = absurd (omega arith)
 positive (f ∷ es) zero h r = grind (arith, nat_tests)
 positive (f ∷ es) (suc i) h r = positive es i (omega arith) (rising_tail f es r)
 
-pub ahead_less : (t u : ℕ) (es : List Entry) → t < u → ahead u es ≡ true → ahead t es ≡ true
-ahead_less t u [] h a = refl
-ahead_less t u (f ∷ fs) h a = grind (arith, nat_tests)
+-- what is before the first entry is before each
+ahead_at : (u : ℕ) (es : List Entry) (i : ℕ) → ahead u es ≡ true → rising es ≡ true → i < length es → u < (get_or es i no_entry).time
+ahead_at u [] i a r h = absurd (omega arith)
+ahead_at u (f ∷ fs) zero a r h = grind (arith, nat_tests)
+ahead_at u (f ∷ fs) (suc i) a r h =
+    let p : u < f.time = grind (arith, nat_tests) in
+    let b : ahead f.time fs ≡ true = grind (arith, nat_tests) in
+    omega (arith, p, ahead_at f.time fs i b (rising_tail f fs r) (omega arith))
 
-below_absent : (t : ℕ) (es : List Entry) → ahead t es ≡ true → rising es ≡ true → absent t es ≡ true
-below_absent t [] a r = refl
-below_absent t (f ∷ fs) a r =
-    let ih = below_absent t fs in
-    let x = ahead_less t f.time fs in
-    grind (arith, nat_tests)
+pub later : (u : ℕ) (f : Entry) (fs : List Entry) → u < f.time → rising (f ∷ fs) ≡ true → ahead u fs ≡ true
+later u f [] q r = refl
+later u f (g ∷ fs) q r = grind (arith, nat_tests)
 
-pub absent_more : (t : ℕ) (es : List Entry) (i : ℕ) (d : Entry) → i < length es → ((get_or es i d).time ≡ t → ⊥) → absent t (drop i es) ≡ absent t (drop (i + 1) es)
-absent_more t es i d h ne =
-    at_drop_more (absent t) es i d h ∙ ap (λ b. not b && absent t (drop (i + 1) es)) (ne_eqb (get_or es i d).time t ne)
+first_ahead : (e : Entry) (es : List Entry) (i : ℕ) → rising (e ∷ es) ≡ true → i < length es → e.time < (get_or es i no_entry).time
+first_ahead e es i r h =
+    let a : ahead e.time es ≡ true = grind (arith, nat_tests) in
+    ahead_at e.time es i a (rising_tail e es r) h
+
+pub times_rise : (es : List Entry) (i j : ℕ) → rising es ≡ true → i ≤ j → j < length es → (get_or es i no_entry).time ≤ (get_or es j no_entry).time
+times_rise [] i j r le h = absurd (omega arith)
+times_rise (f ∷ es) zero zero r le h = omega arith
+times_rise (f ∷ es) zero (suc j) r le h = omega (arith, first_ahead f es j r (omega arith))
+times_rise (f ∷ es) (suc i) zero r le h = absurd (omega arith)
+times_rise (f ∷ es) (suc i) (suc j) r le h = times_rise es i j (rising_tail f es r) (omega arith) (omega arith)
 
 count-many : (t n u : ℕ) (l : List ℕ) → (u ≡ t → ⊥) → count t (many n u l) ≡ count t l
 count-many t zero u l ne = refl
@@ -68,32 +81,24 @@ count_same : (t n : ℕ) (l : List ℕ) → count t (many n t l) ≡ n + count t
 count_same t zero l = omega arith
 count_same t (suc n) l = let a = count-insert t t (many n t l) in let b = count_same t n l in grind (arith, nat_tests)
 
-pub count-absent : (t : ℕ) (es : List Entry) → absent t es ≡ true → count t (times es) ≡ 0
-count-absent t [] a = refl
-count-absent t (e ∷ es) a =
-    let ih = count-absent t es in
-    let m = count-many t e.count e.time (times es) in
-    grind (arith, nat_tests)
+count_none : (t : ℕ) (es : List Entry) → ((j : ℕ) → j < length es → (get_or es j no_entry).time ≡ t → ⊥) → count t (times es) ≡ 0
+count_none t [] ne = refl
+count_none t (e ∷ es) ne =
+    count-many t e.count e.time (times es) (ne 0 (omega arith)) ∙ count_none t es (λ j h. ne (suc j) (omega arith))
 
-pub count_hit : (t : ℕ) (e : Entry) (es : List Entry) → e.time ≡ t → rising (e ∷ es) ≡ true → count t (times (e ∷ es)) ≡ e.count
-count_hit t e es h r =
-    let a : ahead e.time es ≡ true = grind (arith, nat_tests) in
-    let z = count-absent e.time es (below_absent e.time es a (rising_tail e es r)) in
-    let s = count_same e.time e.count (times es) in
-    ap (λ u. count u (times (e ∷ es))) (sym h) ∙ omega arith
+pub count_gap : (t : ℕ) (es : List Entry) (i : ℕ) → Gap t es i → count t (times es) ≡ 0
+count_gap t es i g = count_none t es (λ j h q. ⊎_elim (λ lt. omega (arith, g.before j lt, q)) (λ le. omega (arith, g.after j le h, q)) (cases_lt j i))
 
-pub count_skip : (t : ℕ) (e : Entry) (es : List Entry) → (e.time ≡ t → ⊥) → count t (times (e ∷ es)) ≡ count t (times es)
-count_skip t e es ne = count-many t e.count e.time (times es) ne
+pub count_at : (es : List Entry) (i t : ℕ) → i < length es → (get_or es i no_entry).time ≡ t → rising es ≡ true → count t (times es) ≡ (get_or es i no_entry).count
+count_at [] i t h e r = absurd (omega arith)
+count_at (f ∷ es) zero t h e r =
+    let z = count_none t es (λ j b q. omega (arith, first_ahead f es j r b, q, e)) in
+    let s = count_same t f.count (times es) in
+    ap (λ u. count t (many f.count u (times es))) e ∙ omega arith
+count_at (f ∷ es) (suc i) t h e r =
+    count-many t f.count f.time (times es) (λ q. omega (arith, first_ahead f es i r (omega arith), q, e)) ∙ count_at es i t (omega arith) e (rising_tail f es r)
 
-pub holds : (es : List Entry) (i t : ℕ) → i < length es → (get_or es i no_entry).time ≡ t → rising es ≡ true → 0 < count t (times es)
-holds [] i t h e r = absurd (omega arith)
-holds (f ∷ es) zero t h e r =
-    let p : 0 < f.count = grind (arith, nat_tests) in omega (arith, count_hit t f es e r)
-holds (f ∷ es) (suc i) t h e r =
-    let ih = holds es i t (omega arith) e (rising_tail f es r) in
-    ⊎_elim (λ eq. let p : 0 < f.count = grind (arith, nat_tests) in omega (arith, count_hit t f es eq r)) (λ ne. omega (arith, count_skip t f es ne)) (cases_eq f.time t)
-
-pub least_skip : (t : ℕ) (n u : ℕ) (l : List ℕ) → u < t → least t (many n u l) ≡ least t l
+least_skip : (t n u : ℕ) (l : List ℕ) → u < t → least t (many n u l) ≡ least t l
 least_skip t zero u l h = refl
 least_skip t (suc n) u l h = least-insert t u (many n u l) ∙ ap (λ b. cond b (sooner (Some u) (least t (many n u l))) (least t (many n u l))) (lt-leb t u h) ∙ least_skip t n u l h
 
@@ -119,15 +124,22 @@ least-behind t u [] a r = refl
 least-behind t u (f ∷ fs) a r =
     let p : 0 < f.count = grind (arith, nat_tests) in
     let q : u < f.time = grind (arith, nat_tests) in
-    let b : ahead f.time fs ≡ true = grind (arith, nat_tests) in
-    let ih = least-behind t u fs (ahead_less u f.time fs q b) (rising_tail f fs r) in
+    let b : ahead u fs ≡ true = later u f fs q r in
+    let ih = least-behind t u fs b (rising_tail f fs r) in
     ⊎_elim
     (λ lt. ap (sooner (Some u)) (least_skip t f.count f.time (times fs) lt) ∙ ih)
     (λ le. ap (sooner (Some u)) (least_entry t f (times fs) p le) ∙ nearer u f.time (least t (times fs)) (omega arith) ∙ ih)
     (cases_lt f.time t)
 
-pub least_hit : (t : ℕ) (e : Entry) (es : List Entry) → t ≤ e.time → rising (e ∷ es) ≡ true → least t (times (e ∷ es)) ≡ Some e.time
-least_hit t e es h r =
+-- the times before the place i are below t, and those from it on are not
+pub least_at : (t : ℕ) (es : List Entry) (i : ℕ) → i ≤ length es → ((j : ℕ) → j < i → (get_or es j no_entry).time < t) → ((j : ℕ) → i ≤ j → j < length es → t ≤ (get_or es j no_entry).time) → rising es ≡ true → cond (ltb i (length es)) (Some (get_or es i no_entry).time) None ≡ least t (times es)
+least_at t [] i h before after r = grind (arith, nat_tests)
+least_at t (e ∷ es) zero h before after r =
     let p : 0 < e.count = grind (arith, nat_tests) in
     let b : ahead e.time es ≡ true = grind (arith, nat_tests) in
-    least_entry t e (times es) p h ∙ least-behind t e.time es b (rising_tail e es r)
+    let x = least_entry t e (times es) p (after 0 (omega arith) (omega arith)) ∙ least-behind t e.time es b (rising_tail e es r) in
+    grind (arith, nat_tests)
+least_at t (e ∷ es) (suc i) h before after r =
+    let ih = least_at t es i (omega arith) (λ j b. before (suc j) (omega arith)) (λ j le b. after (suc j) (omega arith) (omega arith)) (rising_tail e es r) in
+    let x = least_skip t e.count e.time (times es) (before 0 (omega arith)) in
+    grind (arith, nat_tests)

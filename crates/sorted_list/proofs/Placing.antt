@@ -1,63 +1,75 @@
--- Putting an entry in: its meaning, its order, and the turns of the loop.
-use Rattle.std.proofs.Common.{◌≡◌, ℕ, ◌+◌, ◌<◌, ◌≤◌, true, false, cond, ltb, List, [], ◌∷◌, ◌++◌, length, get_or, take, drop, set, sym, refl, ap, ◌∙◌, arith}
+-- Putting an entry in where no entry has its time, and taking one out with its last lease.
+use Rattle.std.proofs.Common.{◌≡◌, ℕ, zero, suc, ◌+◌, ◌<◌, ◌≤◌, true, List, [], ◌∷◌, length, get_or, sym, refl, ap, ◌∙◌, arith}
+use Rattle.std.specs.List.{insert as put_in, remove}
 use Rattle.std.proofs.lemmas.Bool.Decides.{nat_tests}
-use Rattle.std.proofs.lemmas.List.{drop_all, length-take-le, append_assoc, take_more_set}
-use Rattle.sorted_list.specs.declared.entry.Entry.{Entry}
-use Rattle.sorted_list.specs.Entries.{many, times, size, rising, ahead, absent, placed}
-use Rattle.sorted_list.proofs.Places.{front, push_front, drop-take-set}
-use Rattle.sorted_list.proofs.Meaning.{many-many}
+use Rattle.lease.specs.Times.{insert, delete}
+use Rattle.lease.proofs.Bags.{delete-insert}
+use Rattle.sorted_list.specs.declared.Entry.{Entry}
+use Rattle.sorted_list.specs.Entries.{many, times, size, rising, ahead, no_entry, Gap}
+use Rattle.sorted_list.proofs.Meaning.{insert-many, many-many, rising_tail, later, positive}
 
-pub times-placed : (c : Entry) (es : List Entry) → times (placed c es) ≡ many c.count c.time (times es)
-times-placed c [] = refl
-times-placed c (e ∷ es) =
-    let one = times-placed e es in
-    let two = ap (many e.count e.time) (times-placed c es) ∙ many-many e.count e.time c.count c.time (times es) in
-    elim (ltb c.time e.time) as (λ b. times (cond b (c ∷ placed e es) (e ∷ placed c es)) ≡ many c.count c.time (many e.count e.time (times es))) [
-      | true ↦ ap (many c.count c.time) one
-      | false ↦ two
-    ]
+pub times-put : (c : Entry) (es : List Entry) (i : ℕ) → times (put_in es i c) ≡ many c.count c.time (times es)
+times-put c [] zero = refl
+times-put c [] (suc i) = refl
+times-put c (e ∷ es) zero = refl
+times-put c (e ∷ es) (suc i) =
+    ap (many e.count e.time) (times-put c es i) ∙ many-many e.count e.time c.count c.time (times es)
 
-pub size-placed : (c : Entry) (es : List Entry) → size (placed c es) ≡ c.count + size es
-size-placed c [] = refl
-size-placed c (e ∷ es) = let one = size-placed e es in let two = size-placed c es in grind (arith, nat_tests)
+pub size-put : (c : Entry) (es : List Entry) (i : ℕ) → size (put_in es i c) ≡ c.count + size es
+size-put c [] zero = refl
+size-put c [] (suc i) = refl
+size-put c (e ∷ es) zero = refl
+size-put c (e ∷ es) (suc i) = omega (arith, size-put c es i)
 
-placed_front : (e : Entry) (es : List Entry) → rising (e ∷ es) ≡ true → placed e es ≡ e ∷ es
-placed_front e [] h = refl
-placed_front e (f ∷ fs) h = let ih = placed_front f fs in grind (arith, nat_tests)
+gap_tail : (t : ℕ) (e : Entry) (es : List Entry) (i : ℕ) → Gap t (e ∷ es) (suc i) → Gap t es i
+gap_tail t e es i g = record {
+  within = omega (arith, g.within);
+  before = λ j h. g.before (suc j) (omega arith);
+  after = λ j le h. g.after (suc j) (omega arith) (omega arith);
+}
 
-ahead-placed : (t : ℕ) (c : Entry) (es : List Entry) → t < c.time → ahead t es ≡ true → ahead t (placed c es) ≡ true
-ahead-placed t c [] l h = grind (arith, nat_tests)
-ahead-placed t c (e ∷ es) l h = grind (arith, nat_tests)
-
-pub rising-placed : (c : Entry) (es : List Entry) → 0 < c.count → rising es ≡ true → absent c.time es ≡ true → rising (placed c es) ≡ true
-rising-placed c [] p h a = grind (arith, nat_tests)
-rising-placed c (e ∷ es) p h a =
-    let f = placed_front e es h in
-    let ih = rising-placed c es p in
-    let x = ahead-placed e.time c es in
+pub rising-put : (c : Entry) (es : List Entry) (i : ℕ) → 0 < c.count → rising es ≡ true → Gap c.time es i → rising (put_in es i c) ≡ true
+rising-put c [] zero p r g = grind (arith, nat_tests)
+rising-put c [] (suc i) p r g = grind (arith, nat_tests)
+rising-put c (e ∷ es) zero p r g = let h = g.after 0 (omega arith) (omega arith) in grind (arith, nat_tests)
+rising-put c (e ∷ []) (suc zero) p r g = let h = g.before 0 (omega arith) in grind (arith, nat_tests)
+rising-put c (e ∷ []) (suc (suc i)) p r g = absurd (omega (arith, g.within))
+rising-put c (e ∷ f ∷ es) (suc zero) p r g =
+    let h = g.before 0 (omega arith) in
+    let ih = rising-put c (f ∷ es) zero p (rising_tail e (f ∷ es) r) (gap_tail c.time e (f ∷ es) zero g) in
+    grind (arith, nat_tests)
+rising-put c (e ∷ f ∷ es) (suc (suc i)) p r g =
+    let ih = rising-put c (f ∷ es) (suc i) p (rising_tail e (f ∷ es) r) (gap_tail c.time e (f ∷ es) (suc i) g) in
     grind (arith, nat_tests)
 
--- one turn of the loop that puts an entry in, at the place k
-placed_here : (c e : Entry) (es : List Entry) → c.time < e.time → placed c (e ∷ es) ≡ c ∷ placed e es
-placed_here c e es h = grind (arith, nat_tests)
+out_times : (es : List Entry) (i t : ℕ) → i < length es → (get_or es i no_entry).time ≡ t → (get_or es i no_entry).count ≡ 1 → times es ≡ insert t (times (remove es i))
+out_times [] i t h e n = absurd (omega arith)
+out_times (f ∷ es) zero t h e n = ap (λ k. many k f.time (times es)) n ∙ ap (λ u. insert u (times es)) e
+out_times (f ∷ es) (suc i) t h e n =
+    ap (many f.count f.time) (out_times es i t (omega arith) e n) ∙ sym (insert-many t f.count f.time (times (remove es i)))
 
-placed_on : (c e : Entry) (es : List Entry) → e.time ≤ c.time → placed c (e ∷ es) ≡ e ∷ placed c es
-placed_on c e es h = grind (arith, nat_tests)
+pub out_size : (es : List Entry) (i : ℕ) → size (remove es i) ≤ size es
+out_size [] zero = omega arith
+out_size [] (suc i) = omega arith
+out_size (f ∷ es) zero = omega arith
+out_size (f ∷ es) (suc i) = omega (arith, out_size es i)
 
-pub turn_on : (xs : List Entry) (len k : ℕ) (c d : Entry) → k < len → len ≤ length xs → (get_or xs k d).time ≤ c.time → take k xs ++ placed c (drop k (take len xs)) ≡ take (k + 1) xs ++ placed c (drop (k + 1) (take len xs))
-turn_on xs len k c d h l t =
-    ap (λ ys. take k xs ++ placed c ys) (front xs len k d h l)
-    ∙ ap (λ ys. take k xs ++ ys) (placed_on c (get_or xs k d) (drop (k + 1) (take len xs)) t)
-    ∙ push_front xs (placed c (drop (k + 1) (take len xs))) k d (omega arith)
+out_ahead : (u : ℕ) (es : List Entry) (i : ℕ) → ahead u es ≡ true → rising es ≡ true → ahead u (remove es i) ≡ true
+out_ahead u [] zero a r = refl
+out_ahead u [] (suc i) a r = refl
+out_ahead u (f ∷ es) zero a r = later u f es (grind (arith, nat_tests)) r
+out_ahead u (f ∷ es) (suc i) a r = a
 
-pub turn_here : (xs : List Entry) (len k : ℕ) (c d : Entry) → k < len → len ≤ length xs → c.time < (get_or xs k d).time → take k xs ++ placed c (drop k (take len xs)) ≡ take (k + 1) (set xs k c) ++ placed (get_or xs k d) (drop (k + 1) (take len (set xs k c)))
-turn_here xs len k c d h l t =
-    ap (λ ys. take k xs ++ placed c ys) (front xs len k d h l)
-    ∙ ap (λ ys. take k xs ++ ys) (placed_here c (get_or xs k d) (drop (k + 1) (take len xs)) t)
-    ∙ sym (append_assoc (take k xs) (c ∷ []) (placed (get_or xs k d) (drop (k + 1) (take len xs))))
-    ∙ ap (λ ys. ys ++ placed (get_or xs k d) (drop (k + 1) (take len xs))) (sym (take_more_set xs k c (omega arith)))
-    ∙ ap (λ ys. take (k + 1) (set xs k c) ++ placed (get_or xs k d) ys) (sym (drop-take-set xs len k c))
+pub out_rising : (es : List Entry) (i : ℕ) → rising es ≡ true → rising (remove es i) ≡ true
+out_rising [] zero r = refl
+out_rising [] (suc i) r = refl
+out_rising (f ∷ es) zero r = rising_tail f es r
+out_rising (f ∷ es) (suc i) r =
+    let ih = out_rising es i in
+    let x = out_ahead f.time es i in
+    grind (arith, nat_tests)
 
-pub last_turn : (xs : List Entry) (len : ℕ) (c : Entry) → len < length xs → take (len + 1) (set xs len c) ≡ take len xs ++ placed c (drop len (take len xs))
-last_turn xs len c h =
-    take_more_set xs len c h ∙ ap (λ ys. take len xs ++ placed c ys) (sym (drop_all len (take len xs) (omega (arith, length-take-le len xs (omega arith)))))
+pub out_means : (es : List Entry) (i t : ℕ) → i < length es → (get_or es i no_entry).time ≡ t → (get_or es i no_entry).count ≤ 1 → rising es ≡ true → times (remove es i) ≡ delete t (times es)
+out_means es i t h e c r =
+    let one : (get_or es i no_entry).count ≡ 1 = omega (arith, positive es i h r) in
+    sym (delete-insert t (times (remove es i))) ∙ ap (delete t) (sym (out_times es i t h e one))

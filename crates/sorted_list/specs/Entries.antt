@@ -3,14 +3,12 @@
 --     times es         the open times, as a registry means them
 --     size es          how many leases there are in all
 --     rising es        each time stands once, the times rise, and each has at least one lease
---     absent t es      no entry has the time t
---     placed e es      e put in before the first later entry
---     no_entry         what stands in a place that is not in use
 --     list_capacity    the most leases, and so the most entries
---     Placed           what a search for the entry of a time answers
-use Rattle.std.specs.Prelude.{◌≡◌, ℕ, zero, suc, ◌+◌, ◌<◌, Bool, true, cond, not, ◌&&◌, List, [], ◌∷◌, length, Some, None, Option, ◌==◌, nat_lt, slice_index_or}
+--     no_entry         what stands for an entry where there is none
+--     Searched         what a search for the entry of a time answers
+use Rattle.std.specs.Prelude.{◌≡◌, ℕ, zero, suc, ◌+◌, ◌<◌, ◌≤◌, Bool, true, ◌&&◌, List, [], ◌∷◌, length, Ok, Err, Result, nat_lt, slice_index_or}
 use Rattle.lease.specs.Times.{insert}
-use Rattle.sorted_list.specs.declared.entry.Entry.{Entry}
+use Rattle.sorted_list.specs.declared.Entry.{Entry}
 
 abbrev pub list_capacity : ℕ
 list_capacity = 32
@@ -36,17 +34,16 @@ abbrev pub rising : List Entry → Bool
 rising [] = true
 rising (e ∷ es) = (nat_lt 0 e.count && ahead e.time es) && rising es
 
-abbrev pub absent : ℕ → List Entry → Bool
-absent t [] = true
-absent t (e ∷ es) = not (e.time == t) && absent t es
-
-abbrev pub placed : Entry → List Entry → List Entry
-placed c [] = c ∷ []
-placed c (e ∷ es) = cond (nat_lt c.time e.time) (c ∷ placed e es) (e ∷ placed c es)
-
 abbrev pub no_entry : Entry
 no_entry = record { time = 0; count = 0 }
 
-abbrev pub Placed : ℕ → List Entry → Option ℕ → Type 0
-Placed t es None = absent t es ≡ true
-Placed t es (Some i) = (i < length es) × ((slice_index_or es i no_entry).time ≡ t)
+-- the times before the place i are below t, and those from it on above t
+pub record Gap (t : ℕ) (es : List Entry) (i : ℕ) : Type 0 where
+  pub within : i ≤ length es
+  pub before : (j : ℕ) → j < i → (slice_index_or es j no_entry).time < t
+  pub after : (j : ℕ) → i ≤ j → j < length es → t < (slice_index_or es j no_entry).time
+
+-- whether an entry has the time t, and its place, or the place before which such an entry would go
+abbrev pub Searched : ℕ → List Entry → Result ℕ ℕ → Type 0
+Searched t es (Ok i) = (i < length es) × ((slice_index_or es i no_entry).time ≡ t)
+Searched t es (Err i) = Gap t es i

@@ -1,37 +1,47 @@
 // The sorted list: a registry that keeps each open time once, with its number of leases.
 #![tactic(auto)]
 
-ghost use Rattle.std.specs.Prelude.{◌≡◌, ◌≤◌, true, take};
-ghost use Rattle.sorted_list.specs.Entries.{times, size, rising, list_capacity};
+ghost use Rattle.std.specs.Prelude.{◌≡◌, ◌≤◌, true};
+ghost use Rattle.sorted_list.specs.Entries.{times, size, rising, list_capacity, Searched};
 ghost use Rattle.std.proofs.Common.{rules, arith};
 
-use crate::entry::Entry;
+use arrayvec::ArrayVec;
 use lease::fault::RegistryFault;
 use lease::registry::Registry;
-
-mod entry;
-mod shift;
 
 const PLACES: usize = 32;
 
 // An entry goes with its last lease.
 const LAST: u32 = 1;
 
-// The first `len` places hold the entries in rising order. Every entry has a lease, so that as many places
-// as leases are enough.
+// A time with its number of leases.
+#[derive(Clone, Copy, Default)]
+struct Entry {
+    time: u32,
+    count: u32,
+}
+
+// The entries in rising order. Every entry has a lease, so that as many places as leases are enough.
 #[derive(Drop)]
 pub struct SortedList {
-    entries: [Entry; PLACES],
-    len: usize,
-    ghost within: { len ≤ list_capacity },
-    ghost few: { size (take len entries) ≤ list_capacity },
-    ghost ordered: { rising (take len entries) ≡ true },
+    entries: ArrayVec<Entry, PLACES>,
+    ghost few: { size entries.items ≤ list_capacity },
+    ghost ordered: { rising entries.items ≡ true },
+}
+
+impl SortedList {
+    // Where the entry of a time stands, or where it would go.
+    fn place_of(&self, time: u32) -> Result<usize, usize>
+        ensures { Searched time self.now.entries.items result }
+    {
+        self.entries.binary_search_by_key(&time, |e| e.time)
+    }
 }
 
 impl Registry for SortedList {
     const CAPACITY: u32 = PLACES as u32;
 
-    ghost leases = { λ s. times (take s.len s.entries) };
+    ghost leases = { λ s. times s.entries.items };
 
     ghost capacity = { list_capacity };
 
@@ -43,8 +53,7 @@ impl Registry for SortedList {
 
     fn empty() -> SortedList {
         SortedList {
-            entries: [Entry { time: 0, count: 0 }; PLACES],
-            len: 0,
+            entries: ArrayVec::new(),
         }
     }
 
@@ -53,48 +62,39 @@ impl Registry for SortedList {
         if held >= Self::CAPACITY {
             return Err(RegistryFault::at_capacity(Self::CAPACITY));
         }
-        match entry::place_of(&self.entries[0..self.len], time) {
-            Some(i) => {
-                let old = self.entries[i];
-                self.entries[i] = Entry {
-                    time,
-                    count: old.count + 1,
-                };
-            }
-            None => {
-                shift::put_in(&mut self.entries, self.len, Entry { time, count: 1 });
-                self.len += 1;
-            }
+        match self.place_of(time) {
+            Ok(i) => self.entries[i].count += 1,
+            Err(i) => self.entries.insert(i, Entry { time, count: 1 }),
         }
         Ok(())
     }
 
     fn remove(&mut self, time: u32) -> Result<(), RegistryFault> {
-        let Some(i) = entry::place_of(&self.entries[0..self.len], time) else {
+        let Ok(i) = self.place_of(time) else {
             return Err(RegistryFault::not_open(time));
         };
-        let old = self.entries[i];
-        if old.count > LAST {
-            self.entries[i] = Entry {
-                time,
-                count: old.count - 1,
-            };
+        if self.entries[i].count > LAST {
+            self.entries[i].count -= 1;
         } else {
-            shift::take_out(&mut self.entries, self.len, i);
-            self.len -= 1;
+            self.entries.remove(i);
         }
         Ok(())
     }
 
     fn count_at(&self, time: u32) -> u32 {
-        entry::count_in(&self.entries[0..self.len], time)
+        match self.place_of(time) {
+            Ok(i) => self.entries[i].count,
+            Err(_) => 0,
+        }
     }
 
     fn total(&self) -> u32 {
-        entry::sum(&self.entries[0..self.len])
+        self.entries.iter().map(|e| e.count).sum()
     }
 
+    // The first time at or above the time is the least.
     fn least_from(&self, time: u32) -> Option<u32> {
-        entry::first_from(&self.entries[0..self.len], time)
+        let i = self.entries.partition_point(|e| e.time < time);
+        self.entries.get(i).map(|e| e.time)
     }
 }

@@ -5,9 +5,7 @@
 use Rattle.std.specs.Prelude.{◌≡◌, ℕ, ◌+◌, ◌<◌, List, length, take, drop, Some, None, Ok, Err, Result}
 use Rattle.kind.specs.Kinds.{Ops}
 use Rattle.lease.specs.Times.{insert, delete, count, opens}
-use Rattle.lease.specs.Tokens.{At, Of}
-use Rattle.lease.specs.declared.token.Lease.{Lease}
-use Rattle.lease.specs.declared.token.Writer.{Writer}
+use Rattle.lease.specs.Tokens.{At, Lease, Writer}
 use Rattle.history.specs.declared.fault.StoreFault.{StoreFault}
 use Rattle.history.specs.Law.{times}
 use Rattle.history.specs.Model.{Model, no_lease, refused_open, refused_read, refused_lease, refused_begin, refused_change, refused_commit, refused_held, refused_kept, record_at, reading, looks, changed, begun, committed, freed, all_pruned, held_number, held_from, owners}
@@ -23,7 +21,7 @@ LeaseOpen ls t (Err f) = (count t ls ≡ 0) × (f ≡ no_lease t)
 
 unfoldable pub Begins : {Row Edit C S G : Type 0} → Ops Row Edit C → ℕ → (S → Model Row C) → (G → List ℕ) → S → G → Result Writer StoreFault → S → G → Type 0
 Begins k cap v leases s g (Ok w) s' g' =
-    (refused_begin cap (v s) (leases g) ≡ None) × Of ((v s).clock + 1) w × (v s' ≡ begun k (v s)) × (leases g' ≡ insert ((v s).clock + 1) (leases g))
+    (refused_begin cap (v s) (leases g) ≡ None) × At ((v s).clock + 1) w × (v s' ≡ begun k (v s)) × (leases g' ≡ insert ((v s).clock + 1) (leases g))
 Begins k cap v leases s g (Err f) s' g' = (refused_begin cap (v s) (leases g) ≡ Some f) × (s' ≡ s) × (g' ≡ g)
 
 -- whether a writer's lease may end at a commit, and the registry after it
@@ -53,10 +51,10 @@ module _ {Row Edit C : Type 0} (k : Ops Row Edit C) where
   -- the clock and how many records were finished; a refused commit gives the writer back
   unfoldable pub Commits : {S G : Type 0} → (S → Model Row C) → (G → List ℕ) → Writer → S → G → Result (ℕ × ℕ) (StoreFault × Writer) → S → G → Type 0
   Commits v leases w s g (Ok p) s' g' =
-      (refused_commit (v s) (leases g) w.number ≡ None) × (leases g' ≡ delete w.number (leases g))
-      × (v s' ≡ all_pruned k (opens (leases g')) (committed k w.number (v s)))
-      × (p.0 ≡ (committed k w.number (v s)).clock) × (p.1 ≡ held_number w.number (v s))
-  Commits v leases w s g (Err p) s' g' = (refused_commit (v s) (leases g) w.number ≡ Some p.0) × (p.1 ≡ w) × (s' ≡ s) × (g' ≡ g)
+      (refused_commit (v s) (leases g) w.time ≡ None) × (leases g' ≡ delete w.time (leases g))
+      × (v s' ≡ all_pruned k (opens (leases g')) (committed k w.time (v s)))
+      × (p.0 ≡ (committed k w.time (v s)).clock) × (p.1 ≡ held_number w.time (v s))
+  Commits v leases w s g (Err p) s' g' = (refused_commit (v s) (leases g) w.time ≡ Some p.0) × (p.1 ≡ w) × (s' ≡ s) × (g' ≡ g)
 
   -- never refused; n is how many records were freed
   unfoldable pub Abandons : {S G : Type 0} → (S → Model Row C) → (G → List ℕ) → ℕ → S → G → ℕ → S → G → Type 0

@@ -11,7 +11,7 @@ use lease::token::Writer;
 impl<K: Kind> Store<K> {
     // Writes the records that a writer holds at the front of a list, and answers how many.
     pub fn held(&self, writer: &Writer, out: &mut [u32]) -> Result<usize, StoreFault>
-        ensures { Holds (view self.now) writer.now.number out.old result out.new }
+        ensures { Holds (view self.now) writer.now.time out.old result out.new }
     {
         let w = writer.number();
         let needed = self.state.holds(w);

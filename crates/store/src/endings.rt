@@ -45,7 +45,7 @@ impl<K: Kind> Store<K> {
 
     // Takes a writer's changes back, prunes every chain, and answers how many records are free by that.
     pub fn abandon<R: Registry>(&mut self, registry: &mut R, writer: Writer) -> usize
-        ensures { Abandons K.ops view R.leases writer.number self.old registry.old result self.new registry.new }
+        ensures { Abandons K.ops view R.leases writer.time self.old registry.old result self.new registry.new }
     {
         let w = writer.write_down();
         let n = self.state.holds(w);

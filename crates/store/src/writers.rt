@@ -31,7 +31,7 @@ impl<K: Kind> Store<K> {
         record: u64,
         row: &mut K::Row,
     ) -> Result<(), StoreFault>
-        ensures { Looks K.ops (view self.now) (R.leases registry.now) writer.now.number «record» row.old result row.new }
+        ensures { Looks K.ops (view self.now) (R.leases registry.now) writer.now.time «record» row.old result row.new }
     {
         let i = self.state.place_of(record)?;
         let w = writer.number();
@@ -48,7 +48,7 @@ impl<K: Kind> Store<K> {
         record: u64,
         edit: K::Edit,
     ) -> Result<(), StoreFault>
-        ensures { Changes K.ops view (R.leases registry.now) writer.now.number «record» edit self.old result self.new }
+        ensures { Changes K.ops view (R.leases registry.now) writer.now.time «record» edit self.old result self.new }
     {
         let i = self.state.place_of(record)?;
         let w = writer.number();

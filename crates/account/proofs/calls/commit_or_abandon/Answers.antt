@@ -11,4 +11,4 @@ pub returns-in-Err : goal.returns-in-Err
 unfolding Commits Abandons
 returns-in-Err g c =
     let e = c.in-Err.ensures in
-    c.abandon-freed.ensures.1 ∙ (λ j. delete (e.1 j).number (g.R.Registry.leases (e.3 j)))
+    c.abandon-freed.ensures.1 ∙ (λ j. delete (e.1 j).time (g.R.Registry.leases (e.3 j)))

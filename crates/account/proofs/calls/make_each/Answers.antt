@@ -10,7 +10,7 @@ pub loop-one-preserved : goal.loop-one-preserved
 unfolding Changes
 loop-one-preserved g c =
     let e = c.in_default.ensures in
-    one_made g.K.Kind.ops (view c.loop-one.store) (view c.change.new.self) (g.R.Registry.leases c.args.registry.now) c.args.writer.now.number c.args.edits.now c.loop-one.one-index c.one-item.result
+    one_made g.K.Kind.ops (view c.loop-one.store) (view c.change.new.self) (g.R.Registry.leases c.args.registry.now) c.args.writer.now.time c.args.edits.now c.loop-one.one-index c.one-item.result
     c.loop-one-test.true c.one-item.is e.0 e.1
     ∙ c.loop-one.invariant
 
@@ -19,10 +19,10 @@ unfolding Changes
 returns-in-Err g c =
     let e = c.in-Err.ensures in
     sym c.loop-one.invariant
-    ∙ one_refused g.K.Kind.ops (view c.loop-one.store) (view c.change.new.self) (g.R.Registry.leases c.args.registry.now) c.args.writer.now.number c.args.edits.now c.loop-one.one-index c.one-item.result c.in-Err.fault
+    ∙ one_refused g.K.Kind.ops (view c.loop-one.store) (view c.change.new.self) (g.R.Registry.leases c.args.registry.now) c.args.writer.now.time c.args.edits.now c.loop-one.one-index c.one-item.result c.in-Err.fault
     c.loop-one-test.true c.one-item.is e.0 (ap view e.1)
 
 pub returns : goal.returns
 returns g c =
     let none = drop_all c.loop-one.one-index c.args.edits.now c.loop-one-test.false in
-    sym c.loop-one.invariant ∙ ap (change_each g.K.Kind.ops (view c.loop-one.store) (g.R.Registry.leases c.args.registry.now) c.args.writer.now.number) none
+    sym c.loop-one.invariant ∙ ap (change_each g.K.Kind.ops (view c.loop-one.store) (g.R.Registry.leases c.args.registry.now) c.args.writer.now.time) none

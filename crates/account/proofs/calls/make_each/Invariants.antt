@@ -8,4 +8,4 @@ abbrev pub invariant-loop-one : goal.invariant-loop-one
 invariant-loop-one g l =
     let k = g.K.Kind.ops in
     let ls = g.R.Registry.leases l.registry in
-    change_each k (view l.store) ls l.writer.number (drop l.one-index l.edits) ≡ change_each k (view l.initial.store) ls l.writer.number l.edits
+    change_each k (view l.store) ls l.writer.time (drop l.one-index l.edits) ≡ change_each k (view l.initial.store) ls l.writer.time l.edits

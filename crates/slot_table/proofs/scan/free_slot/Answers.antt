@@ -1,11 +1,10 @@
-use Rattle.std.proofs.Common.{length, sym, ap, arith}
-use Rattle.slot_table.proofs.Filling.{taken_all, length-full}
+use Rattle.std.proofs.Common.{rules, tests}
+use Rattle.std.proofs.lemmas.Iterator.{YieldsList-from_slice}
+use Rattle.std.proofs.lemmas.Iterator.Search.{position_from_yields_List}
+use Rattle.slot_table.proofs.Filling.{empty, found_free}
 use Rattle.slot_table.proofs.scan.free_slot.Goals as goal
-
-pub loop-i-preserved : goal.loop-i-preserved
-loop-i-preserved c =
-    let e = length-full c.args.slots.now c.loop-i.i c.loop-i-test.true (sym c.if-is_none.ensures) in omega arith
 
 pub returns : goal.returns
 returns c =
-    let e = ap length (taken_all c.args.slots.now c.loop-i.i c.loop-i-test.false) in omega arith
+    let xs = c.args.slots.now in
+    found_free xs c.position.result (position_from_yields_List empty _ _ c.position.result c.position.ensures.ran (YieldsList-from_slice xs cc) (λ x b q k. search (rules, tests)))

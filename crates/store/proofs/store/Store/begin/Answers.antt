@@ -2,7 +2,7 @@ use Rattle.std.proofs.Common.{◌+◌, eqb, length, Some, None, sym, refl, ap, �
 use Rattle.std.proofs.lemmas.Result.{err_from_is_err_and}
 use Rattle.std.proofs.lemmas.Bool.{eq-eqb, ne_eqb}
 use Rattle.lease.specs.Times.{insert}
-use Rattle.lease.specs.Tokens.{Of}
+use Rattle.lease.specs.Tokens.{At}
 use Rattle.history.specs.Card.{raised}
 use Rattle.history.specs.History.{limit}
 use Rattle.history.specs.Model.{leases_used, clock_limit, refused_open}
@@ -49,7 +49,7 @@ returns g c =
     let ls = g.R.Registry.leases c.args.registry.now in (
       passes (eqb m.clock limit) (clock_limit m.clock) (refused_open cap ls) (ne_eqb m.clock limit (λ q. c.if-now.false (u ∙ q)))
           ∙ passes (eqb (length ls) cap) (leases_used cap) None (ne_eqb (length ls) cap (λ q. omega (arith, q, e.0))),
-      subst (λ t. Of (t + 1) c.take_up.result) u c.take_up.ensures,
+      subst (λ t. At (t + 1) c.take_up.result) u c.take_up.ensures,
       c.tick.ensures,
       e.1 ∙ ap (λ t. insert (t + 1) ls) u,
     )

@@ -16,7 +16,7 @@ returns-in_err-i g c =
     let e = c.in_err-i.ensures in
     let m = view c.args.self.now in
     let ls = g.R.Registry.leases c.args.registry.now in
-    let w = c.args.writer.now.number in
+    let w = c.args.writer.now.time in
     rw (p.1, p.2) (no_such m c.args.record (refused_lease ls w (refused_own g.K.Kind.ops m w c.args.record)) e.0 ∙ ap (λ (f : StoreFault). Some f) (sym e.1), refl)
 
 pub returns-in_err-ask : goal.returns-in_err-ask
@@ -26,7 +26,7 @@ returns-in_err-ask g c =
     let m = view c.args.self.now in
     let ls = g.R.Registry.leases c.args.registry.now in
     let e = c.in_err-ask.ensures in
-    let w = c.args.writer.now.number in
+    let w = c.args.writer.now.time in
     let u = c.number-w.ensures in
     let own = refused_own g.K.Kind.ops m w c.args.record in
     rw (p.1, p.2) (
@@ -47,7 +47,7 @@ returns-in_err-may_change g c =
     let m = view c.args.self.now in
     let ls = g.R.Registry.leases c.args.registry.now in
     let e = c.in_ok-i.ensures in
-    let w = c.args.writer.now.number in
+    let w = c.args.writer.now.time in
     let u = c.number-w.ensures in
     let own = refused_own k m w c.args.record in
     let o : 0 < count w ls = subst (λ n. 0 < count n ls) u c.in_ok-ask.ensures in
@@ -68,7 +68,7 @@ returns g c =
     let m = view c.args.self.now in
     let ls = g.R.Registry.leases c.args.registry.now in
     let e = c.in_ok-i.ensures in
-    let w = c.args.writer.now.number in
+    let w = c.args.writer.now.time in
     let u = c.number-w.ensures in
     let own = refused_own k m w c.args.record in
     let o : 0 < count w ls = subst (λ n. 0 < count n ls) u c.in_ok-ask.ensures in (

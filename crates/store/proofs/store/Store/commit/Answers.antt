@@ -36,7 +36,7 @@ returns g c =
     let u = c.number-w.ensures in
     let G = c.end_lease.new.registry in
     let n = c.holds-n.ensures ∙ ap (λ z. held_number z m) u in
-    let fin = c.finish_held.ensures ∙ ap (λ z. finished k z c.number-w.result m) n ∙ ap (λ z. finished k (held_number c.args.writer.number m) z m) u in
+    let fin = c.finish_held.ensures ∙ ap (λ z. finished k z c.number-w.result m) n ∙ ap (λ z. finished k (held_number c.args.writer.time m) z m) u in
     let all = c.prune_all.ensures ∙ ap (all_pruned k (opens (g.R.Registry.leases G))) fin in (
       ap (λ z. refused_commit m ls z) (sym u) ∙ e.0,
       e.1 ∙ ap (λ z. delete z ls) u,

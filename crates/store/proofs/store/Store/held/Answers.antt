@@ -11,7 +11,7 @@ unfolding Holds
 returns-then-out-needed g c =
     let m = view c.args.self.now in
     let n = c.holds-needed.ensures ∙ ap (λ z. held_number z m) c.number-w.ensures in
-    let v = held_number c.args.writer.now.number m in
+    let v = held_number c.args.writer.now.time m in
     let given = length c.args.out.now in
     (comes (ltb given v) (list_short v) None (lt-ltb given v (omega (arith, n, c.if-out-needed.true))) ∙ ap (λ z. Some (list_short z)) (sym n) ∙ ap Some (sym c.at.ensures), refl)
 
@@ -24,7 +24,7 @@ returns g c =
     let m = view c.args.self.now in
     let u = c.number-w.ensures in
     let n = c.holds-needed.ensures ∙ ap (λ z. held_number z m) u in
-    let v = held_number c.args.writer.now.number m in
+    let v = held_number c.args.writer.now.time m in
     let given = length c.args.out.now in (
       passes (ltb given v) (list_short v) None (le-ltb given v (omega (arith, n, c.if-out-needed.false))),
       c.write_held.ensures.number ∙ ap (λ z. held_number z m) u,

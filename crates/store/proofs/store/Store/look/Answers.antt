@@ -15,7 +15,7 @@ returns-in_err-i g c =
     let p = err_from_is_err_and c.from_residual.result c.from_residual.ensures.1 in
     let e = c.in_err-i.ensures in
     let ls = g.R.Registry.leases c.args.registry.now in
-    rw (p.1, p.2) (no_such (view c.args.self.now) c.args.record (refused_lease ls c.args.writer.now.number None) e.0 ∙ ap (λ (f : StoreFault). Some f) (sym e.1), refl)
+    rw (p.1, p.2) (no_such (view c.args.self.now) c.args.record (refused_lease ls c.args.writer.now.time None) e.0 ∙ ap (λ (f : StoreFault). Some f) (sym e.1), refl)
 
 pub returns-in_err-ask : goal.returns-in_err-ask
 unfolding Looks Placed LeaseOpen
@@ -23,7 +23,7 @@ returns-in_err-ask g c =
     let p = err_from_is_err_and c.from_residual-in_err-ask.result c.from_residual-in_err-ask.ensures.1 in
     let ls = g.R.Registry.leases c.args.registry.now in
     let e = c.in_err-ask.ensures in
-    let t = c.args.writer.now.number in
+    let t = c.args.writer.now.time in
     let u = c.number-w.ensures in
     rw (p.1, p.2) (
       such (view c.args.self.now) c.args.record (refused_lease ls t None) c.in_ok-i.ensures.0
@@ -42,7 +42,7 @@ returns g c =
     let m = view c.args.self.now in
     let ls = g.R.Registry.leases c.args.registry.now in
     let e = c.in_ok-i.ensures in
-    let t = c.args.writer.now.number in
+    let t = c.args.writer.now.time in
     let u = c.number-w.ensures in
     let o : 0 < count t ls = subst (λ n. 0 < count n ls) u c.in_ok-ask.ensures in (
       such m c.args.record (refused_lease ls t None) e.0 ∙ is_open ls t None o,
