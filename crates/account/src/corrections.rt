@@ -10,9 +10,8 @@ use std::alloc::Global;
 use std::io;
 use version_table::prune::prune_chain;
 use version_table::table::VersionTable;
-use version_table::walk::times;
 
-// The most versions of the truck, and the places for their times.
+// The most versions of the truck.
 const ROOM: usize = 8;
 
 // A truck: its newest row, its versions, and the open reports.
@@ -31,14 +30,8 @@ impl Truck {
 
 // Each version by its time and what it undoes: the weight at its time, and the one just before.
 fn show_versions(rt: &impl Print, truck: &Truck) -> io::Result<()> {
-    let mut out = [0; ROOM];
-    let n = truck.table.len(0);
-    if n > ROOM {
-        return Ok(());
-    }
-    let _written = times(&truck.table, 0, &mut out);
-    for i in 0..n {
-        let time = out[i];
+    for version in truck.table.chain(0) {
+        let time = version.time;
         let from = truck.weight_at(time);
         let back = truck.weight_at(time.saturating_sub(1));
         println!(rt; "  version {time} leads from {from} back to {back} kg")?;

@@ -1,8 +1,8 @@
 // One record's versions in a table: its chain is number 0.
-ghost use Rattle.std.specs.Prelude.{◌≡◌, [], if◌then◌else◌, slice_index_or, slice_set};
+ghost use Rattle.std.specs.Prelude.{◌≡◌, if◌then◌else◌, slice_set};
 ghost use Rattle.lease.specs.Times.{opens};
 ghost use Rattle.chain.specs.Versions.{Falling, reads};
-ghost use Rattle.version_table.specs.Chains.{chains};
+ghost use Rattle.version_table.specs.Chains.{chains, chain};
 ghost use Rattle.account.specs.Finishing.{finished, points};
 
 use chain::version::Version;
@@ -10,7 +10,7 @@ use kind::Kind;
 use lease::registry::Registry;
 use version_table::prune::prune_chain;
 use version_table::table::VersionTable;
-use version_table::walk::read_back;
+use version_table::walk::lead_back;
 
 // Finishes an edit at a time: the new row stands in place, its before-image in front of the chain, which is pruned. False where there is no room.
 pub fn finish<K: Kind, R: Registry>(
@@ -21,7 +21,7 @@ pub fn finish<K: Kind, R: Registry>(
     edit: K::Edit,
 ) -> bool
     ensures row { row.new ≡ (if result then K.ops.edited row.old edit else row.old) }
-    ensures chain { chains table.new ≡ (if result then slice_set (chains table.old) 0 (finished K.ops (opens (R.leases registry.now)) row.old edit time (slice_index_or (chains table.old) 0 [])) else chains table.old) }
+    ensures chain { chains table.new ≡ (if result then slice_set (chains table.old) 0 (finished K.ops (opens (R.leases registry.now)) row.old edit time (chain table.old 0)) else chains table.old) }
 {
     let (edited, change) = K::edit(*row, edit);
     if !table.push(0, Version { time, change }) {
@@ -34,16 +34,14 @@ pub fn finish<K: Kind, R: Registry>(
 
 // The row at a time: the versions above it undone, where the times of the chain fall.
 pub fn row_at<K: Kind>(table: &VersionTable<K::Change>, row: K::Row, time: u32) -> K::Row
-    ensures { Falling (slice_index_or (chains table.now) 0 []) → result ≡ reads K.ops row (slice_index_or (chains table.now) 0 []) time }
+    ensures { Falling (chain table.now 0) → result ≡ reads K.ops row (chain table.now 0) time }
 {
-    let mut reached = row;
-    read_back::<K>(table, 0, time, &mut reached);
-    reached
+    lead_back::<K>(table.chain(0), time, row)
 }
 
 // From the newest row down over the open times: how often the reading differs from the one before.
 pub fn differing<K: Kind>(table: &VersionTable<K::Change>, newest: K::Row, times: &[u32]) -> usize
-    ensures { Falling (slice_index_or (chains table.now) 0 []) → result ≡ points K.ops newest (slice_index_or (chains table.now) 0 []) newest times.now }
+    ensures { Falling (chain table.now 0) → result ≡ points K.ops newest (chain table.now 0) newest times.now }
 {
     let mut last = newest;
     let mut n = 0;

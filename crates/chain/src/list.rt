@@ -24,6 +24,7 @@ pub fn read_list<K: Kind>(row: K::Row, versions: &[Version<K::Change>], s: u32) 
 }
 
 // Prunes a list in place and answers how many versions are kept, at its front; the places behind them are as they were.
+// It writes at the count of those kept, behind the index that it reads: no iterator of the library reads and writes one list so.
 pub fn prune_list<K: Kind, R: Registry>(
     registry: &R,
     row: K::Row,

@@ -6,7 +6,7 @@ use std::process::Abort;
 use std::test::Fail;
 use version_table::prune::{prune_behind, prune_chain};
 use version_table::table::VersionTable;
-use version_table::walk::{read_back, read_past_first, times};
+use version_table::walk::{lead_back, write_times};
 
 // Two chains over three slots.
 fn small(rt: HostRuntime) -> Result<VersionTable<Patch>, Fail> {
@@ -18,7 +18,7 @@ fn kept(rt: &impl Abort, table: &VersionTable<Patch>, r: usize) -> [u32; 4] {
     let mut out = [0; 4];
     let n = table.len(r);
     assert!(rt; n <= 4);
-    assert_eq!(rt; times(table, r, &mut out), n);
+    assert_eq!(rt; write_times(table.chain(r), &mut out), n);
     out
 }
 
@@ -88,11 +88,9 @@ fn pruned_in_place(rt: HostRuntime) -> Result<(), Fail> {
     assert_eq!(rt; kept(&rt, &table, 0), [9, 6, 0, 0]);
     assert_eq!(rt; kept(&rt, &table, 1), [5, 0, 0, 0]);
     assert_eq!(rt; table.used(), 3);
-    let mut at_8 = row(40);
-    read_back::<Fields>(&table, 0, 8, &mut at_8);
+    let at_8 = lead_back::<Fields>(table.chain(0), 8, row(40));
     assert_eq!(rt; at_8.values, row(30).values);
-    let mut at_3 = row(40);
-    read_back::<Fields>(&table, 0, 3, &mut at_3);
+    let at_3 = lead_back::<Fields>(table.chain(0), 3, row(40));
     assert_eq!(rt; at_3.values, row(10).values);
     Ok(())
 }
@@ -108,8 +106,9 @@ fn pruned_behind_a_holder(rt: HostRuntime) -> Result<(), Fail> {
     let registry = opened(&[5])?;
     prune_behind::<Fields, SlotTable>(&mut table, 0, &registry, row(50));
     assert_eq!(rt; kept(&rt, &table, 0), [0, 9, 0, 0]);
-    let mut finished = row(40);
-    read_past_first::<Fields>(&table, 0, 5, &mut finished);
+    let mut behind = table.chain(0);
+    assert!(rt; behind.next().is_some());
+    let finished = lead_back::<Fields>(behind, 5, row(40));
     assert_eq!(rt; finished.values, row(20).values);
     let shut = opened(&[])?;
     prune_behind::<Fields, SlotTable>(&mut table, 0, &shut, row(50));

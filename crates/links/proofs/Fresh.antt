@@ -106,17 +106,15 @@ fresh_counted n m =
     let e = ap length (tails _ _ _ _ (inv_walks _ _ _ (fresh_inv n m))).0 in
     omega (arith, e, length_down m, length_below m)
 
-pub record Made (n m : ℕ) (nx hv : List (Option ℕ)) : Type 0 where
-  pub sound : Sound nx (Some (m - 1) ∷ hv)
-  pub counted : 0 + length (walk nx (length nx) (Some (m - 1))) ≡ length nx
+pub record Made (n m : ℕ) (nx hv : List (Option ℕ)) (o : Option ℕ) : Type 0 where
+  pub sound : Sound nx (o ∷ hv)
+  pub counted : 0 + length (walk nx (length nx) o) ≡ length nx
   pub empty : walks nx hv ≡ replicate n []
   pub sized : length nx ≡ m
 
-pub made_fresh : (n m : ℕ) (nx hv : List (Option ℕ)) → 1 ≤ m → nx ≡ links_below m → hv ≡ replicate n None → Made n m nx hv
-made_fresh n m nx hv h a b =
-    let P : List (Option ℕ) → Type 0 = λ x. Made n m x hv in
-    let Q : List (Option ℕ) → Type 0 = λ x. Made n m (links_below m) x in
-    let R : Option ℕ → Type 0 = λ o. Sound (links_below m) (o ∷ replicate n None) in
-    let S : Option ℕ → Type 0 = λ o. 0 + length (walk (links_below m) (length (links_below m)) o) ≡ length (links_below m) in
-    let e = link_below_less m h in
-    subst P (sym a) (subst Q (sym b) (record { sound = subst R e (fresh_sound n m); counted = subst S e (fresh_counted n m); empty = fresh_walks n m; sized = length_below m }))
+pub made_fresh : (n m : ℕ) (nx hv : List (Option ℕ)) (o : Option ℕ) → nx ≡ links_below m → hv ≡ replicate n None → o ≡ link_below m → Made n m nx hv o
+made_fresh n m nx hv o a b e =
+    let P : List (Option ℕ) → Type 0 = λ x. Made n m x hv o in
+    let Q : List (Option ℕ) → Type 0 = λ x. Made n m (links_below m) x o in
+    let R : Option ℕ → Type 0 = λ x. Made n m (links_below m) (replicate n None) x in
+    subst P (sym a) (subst Q (sym b) (subst R (sym e) (record { sound = fresh_sound n m; counted = fresh_counted n m; empty = fresh_walks n m; sized = length_below m })))

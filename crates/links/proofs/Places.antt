@@ -1,11 +1,13 @@
 -- The places of a list, by the links that lead to them.
-use Rattle.std.proofs.Common.{◌≡◌, ℕ, zero, suc, ◌+◌, ◌-◌, ◌<◌, ◌≤◌, List, [], ◌∷◌, ◌++◌, length, get_or, take, drop, set, Some, None, Option, sym, refl, ap, ◌∙◌, add-one, arith, MatchOption}
+use Rattle.std.proofs.Common.{◌≡◌, ℕ, zero, suc, ◌+◌, ◌-◌, ◌^◌, ◌<◌, ◌≤◌, List, [], ◌∷◌, ◌++◌, length, get_or, take, drop, set, Some, None, sum_by, Option, sym, refl, ap, ◌∙◌, ⊎_elim, arith, MatchOption}
 use Rattle.std.specs.List.{slice_get}
-use Rattle.std.proofs.lemmas.List.{get_or_read, length-drop, drop-drop}
+use Rattle.std.proofs.lemmas.Bool.{cases_lt}
+use Rattle.std.proofs.lemmas.List.{get_or_read, get_or_past, get_or-set_same, length-drop, drop-drop}
+use Rattle.std.proofs.lemmas.List.Sums.{get_or-le-sum_by}
 use Rattle.links.specs.declared.table.Links.{Links}
-use Rattle.links.specs.Meaning.{slots, from, Onto, before}
+use Rattle.links.specs.Meaning.{slots, size, list, from, Onto, before}
 use Rattle.links.proofs.Linked.{Run, good_run, inv_from}
-use Rattle.links.proofs.Steps.{row_in}
+use Rattle.links.proofs.Steps.{row_in, used_is}
 use Rattle.links.proofs.CutSteps.{place}
 
 pub slice_get_inside : {X : Type 0} (xs : List X) (k : ℕ) (x : X) → slice_get xs k ≡ Some x → k < length xs
@@ -33,15 +35,6 @@ slice_get_drop [] zero = refl
 slice_get_drop [] (suc k) = refl
 slice_get_drop (y ∷ xs) zero = refl
 slice_get_drop (y ∷ xs) (suc k) = slice_get_drop xs k
-
--- the place k leaves the list
-pub slice_get_cut : {X : Type 0} (xs : List X) (k : ℕ) → k < length xs → slice_get (take k xs ++ drop (k + 1) xs) k ≡ slice_get xs (k + 1)
-slice_get_cut xs k h = ap (λ n. slice_get (take k xs ++ drop n xs) k) (add-one k) ∙ go xs k h ∙ ap (slice_get xs) (sym (add-one k))
-  where
-    go : {X : Type 0} (ys : List X) (j : ℕ) → j < length ys → slice_get (take j ys ++ drop (suc j) ys) j ≡ slice_get ys (suc j)
-    go [] j l = let f : ⊥ = omega arith in absurd f
-    go (y ∷ ys) zero l = slice_get_drop ys 0
-    go (y ∷ ys) (suc j) l = go ys j (omega arith)
 
 pub before_cut : (L : List ℕ) (k : ℕ) (M : List ℕ) → k ≤ length L → before (take k L ++ M) k ≡ before L k
 before_cut L zero M h = refl
@@ -85,18 +78,15 @@ module _ (l : Links) (r k s : ℕ) (e : slice_get (get_or (slots l) r []) k ≡ 
       let p = place l r k s (row_of (slots l) r k s e) (slice_get_inside _ k s e) (slice_get-get_or _ k s 0 e) in
       get_or_read l.next.items s o p.0 eo None ∙ run_head l.next.items _ _ p.1 ∙ slice_get_drop (get_or (slots l) r []) (k + 1)
 
--- the place k, by the link to the place before it
-pub at_front : (L : List ℕ) (k : ℕ) (o : Option ℕ) → k < length L → o ≡ before L k → o ≡ None → k ≡ 0
-at_front L zero o h e n = refl
-at_front L (suc k) o h e n = let f : ⊥ = omega (arith, slice_get_end L k (sym e ∙ n)) in absurd f
+-- a place behind the last slot of a list
+pub behind_last : (L : List ℕ) (k : ℕ) (o : Option ℕ) → o ≡ before L k → o ≡ None → (k ≡ 0 → ⊥) → None ≡ slice_get L k
+behind_last L zero o e n h = absurd (h refl)
+behind_last L (suc k) o e n h = sym (slice_get_past L k (sym e ∙ n))
 
+-- the slot before the place k
 pub behind : (L : List ℕ) (k p : ℕ) (o : Option ℕ) → o ≡ before L k → o ≡ Some p → (k ≡ k - 1 + 1) × (slice_get L (k - 1) ≡ Some p)
 behind L zero p o e n = let z : ◌≡◌ {A = ℕ} 0 1 = cc in let f : ⊥ = omega arith in absurd f
 behind L (suc k) p o e n = let q : k ≡ suc k - 1 = omega arith in (omega arith, ap (slice_get L) (sym q) ∙ sym e ∙ n)
-
-pub front_cut : (S T : List (List ℕ)) (r k : ℕ) (L : List ℕ) (o : Option ℕ) (n : ℕ) → k ≡ 0 → k < length L → MatchOption o ((T ≡ S) × (L ≡ [])) (λ s. (T ≡ set S r (drop 1 L)) × (L ≡ s ∷ drop 1 L) × (s < n)) → T ≡ set S r (take k L ++ drop (k + 1) L)
-front_cut S T r k L None n z h c = let f : ⊥ = omega (arith, ap length c.1) in absurd f
-front_cut S T r k L (Some s) n z h c = c.0 ∙ ap (λ m. set S r (take m L ++ drop (m + 1) L)) (sym z)
 
 pub later_cut : (S T : List (List ℕ)) (r k j : ℕ) (L : List ℕ) (o : Option ℕ) (n : ℕ) → k ≡ j + 1 → k < length L → MatchOption o ((T ≡ S) × (drop (j + 1) L ≡ [])) (λ s. (T ≡ set S r (take (j + 1) L ++ drop 1 (drop (j + 1) L))) × (drop (j + 1) L ≡ s ∷ drop 1 (drop (j + 1) L)) × (s < n)) → T ≡ set S r (take k L ++ drop (k + 1) L)
 later_cut S T r k j L None n z h c = let f : ⊥ = omega (arith, ap length c.1, length-drop (j + 1) L) in absurd f
@@ -109,3 +99,20 @@ pub record Front (l : Links) (r s : ℕ) : Type 0 where
 
 pub front : (l : Links) (r s : ℕ) → Some s ≡ slice_get (get_or (slots l) r []) 0 → Front l r s
 front l r s e = let h = row_of (slots l) r 0 s (sym e) in record { row = h; head = head_is l r h ∙ sym e }
+
+-- the cursor before the place k that has left the list
+pub cut_stands : (S T : List (List ℕ)) (r k : ℕ) (o : Option ℕ) → k < length (get_or S r []) → o ≡ before (get_or S r []) k → T ≡ set S r (take k (get_or S r []) ++ drop (k + 1) (get_or S r [])) → o ≡ before (get_or T r []) k
+cut_stands S T r k o h e c =
+    let L = get_or S r [] in
+    let inside : k ≤ length L = omega arith in
+    let row : get_or T r [] ≡ take k L ++ drop (k + 1) L = ap (λ ls. get_or ls r []) c ∙ get_or-set_same S r _ [] (row_in_range S r k h) in
+    e ∙ sym (ap (λ M. before M k) row ∙ before_cut L k (drop (k + 1) L) inside)
+
+-- there are no more slots in lists than there are
+pub slots_le : (l : Links) → sum_by length (slots l) ≤ size l
+unfolding slots size
+slots_le l = omega (arith, used_is l.next.items l.heads.items l.free l.used l.sound l.counted, l.counted)
+
+pub list_small : (l : Links) (r : ℕ) → length (list l r) < 2 ^ 63
+unfolding size
+list_small l r = ⊎_elim (λ (h : r < length (slots l)). omega (arith, get_or-le-sum_by length (slots l) r [] h, slots_le l, l.next.ok.0, l.next.ok.1, l.next.small)) (λ (h : length (slots l) ≤ r). omega (arith, ap length (get_or_past (slots l) r [] h))) (cases_lt r (length (slots l)))

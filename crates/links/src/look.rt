@@ -1,7 +1,7 @@
 // Walking a list, slot by slot.
-ghost use Rattle.std.specs.Prelude.{◌≡◌, ◌+◌, ◌<◌, [], ◌∷◌, length, Some, sum_by, slice_index_or};
+ghost use Rattle.std.specs.Prelude.{◌≡◌, ◌<◌, ◌∷◌, length, Some, sum_by};
 ghost use Rattle.std.specs.List.{slice_get};
-ghost use Rattle.links.specs.Meaning.{slots, size, from, Onto};
+ghost use Rattle.links.specs.Meaning.{slots, size, list, from, Onto};
 
 use crate::table::Links;
 
@@ -9,8 +9,8 @@ impl Links {
     // The link to the first place of the list r; none where there is no such list.
     pub fn first(&self, r: usize) -> Option<u16>
         ensures onto { Onto self.now result }
-        ensures list { from self.now result ≡ slice_index_or (slots self.now) r [] }
-        ensures head { result ≡ slice_get (slice_index_or (slots self.now) r []) 0 }
+        ensures list { from self.now result ≡ list self.now r }
+        ensures head { result ≡ slice_get (list self.now r) 0 }
     {
         if r < self.heads.len() {
             self.heads[r]
@@ -27,17 +27,6 @@ impl Links {
         ensures inside { slot < size self.now }
     {
         self.next[slot as usize]
-    }
-
-    // The link from the place k of the list r to the next place; `at` is the link to the place k.
-    pub fn follow(&self, r: usize, k: usize, at: Option<u16>) -> Option<u16>
-        requires { at ≡ slice_get (slice_index_or (slots self.now) r []) k }
-        ensures { result ≡ slice_get (slice_index_or (slots self.now) r []) (k + 1) }
-    {
-        match at {
-            None => None,
-            Some(s) => self.next[s as usize],
-        }
     }
 
     // How many slots are in lists.

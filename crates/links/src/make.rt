@@ -1,32 +1,31 @@
 // Making a table: every slot is free, and every list is empty.
-ghost use Rattle.std.specs.Prelude.{◌≡◌, ◌≤◌, [], replicate, IfOk, None};
-ghost use Rattle.links.specs.Walk.{links_below};
+ghost use Rattle.std.specs.Prelude.{◌≡◌, ◌≤◌, [], replicate, IfOk};
+ghost use Rattle.links.specs.Walk.{link_below, links_below};
 ghost use Rattle.links.specs.Meaning.{slots, size};
 
 use crate::table::Links;
 use std::alloc::{AllocError, Global};
 
-// No list has a slot.
-fn no_heads(heap: Global, n: usize) -> Result<Vec<Option<u16>>, AllocError>
-    ensures { IfOk result (λ v. v.items ≡ replicate n None) }
+// The link to the slot below a slot; none from the lowest one.
+fn below(slot: usize) -> Option<u16>
+    requires { slot ≤ 65536 }
+    ensures { result ≡ link_below slot }
 {
-    let mut heads = Vec::with_capacity(heap, n)?;
-    for _i in 0..n {
-        heads.push(None)?;
+    if slot == 0 {
+        None
+    } else {
+        Some((slot - 1) as u16)
     }
-    Ok(heads)
 }
 
-// Each slot leads to the one below it.
+// Each slot leads to the one below it. A loop, since for `(0..m).map(below).collect(heap)` the proof did not close.
 fn one_list(heap: Global, m: usize) -> Result<Vec<Option<u16>>, AllocError>
     requires { m ≤ 65536 }
     ensures { IfOk result (λ v. v.items ≡ links_below m) }
 {
     let mut next = Vec::with_capacity(heap, m)?;
-    let mut below = None;
-    for i in 0..m {
-        next.push(below)?;
-        below = Some(i as u16);
+    for slot in 0..m {
+        next.push(below(slot))?;
     }
     Ok(next)
 }
@@ -38,8 +37,8 @@ impl Links {
         ensures { IfOk result (λ l. (slots l ≡ replicate n []) × (size l ≡ m)) }
     {
         let next = one_list(heap, m)?;
-        let heads = no_heads(heap, n)?;
-        let free = Some((m - 1) as u16);
+        let heads = vec![in heap; None; n]?;
+        let free = below(m);
         Ok(Links {
             next,
             heads,

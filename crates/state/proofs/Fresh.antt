@@ -1,5 +1,5 @@
 -- A new store, and the length of a record's chain.
-use Rattle.std.proofs.Common.{◌≡◌, ℕ, zero, suc, ◌+◌, ◌<◌, ◌≤◌, Bool, true, false, cond, List, [], ◌∷◌, ◌++◌, length, get_or, take, drop, set, replicate, Some, None, vec_items, sum_by, Option, sym, refl, ap, ◌∙◌, append_assoc, append-nil, add-one, arith}
+use Rattle.std.proofs.Common.{◌≡◌, ℕ, zero, suc, ◌+◌, ◌<◌, ◌≤◌, Bool, true, false, cond, List, [], ◌∷◌, ◌++◌, length, get_or, take, drop, set, replicate, is_some, Some, None, vec_items, sum_by, MatchOption, Option, sym, refl, ap, ◌∙◌, append_assoc, append-nil, add-one, arith}
 use Rattle.std.proofs.lemmas.List.{at_drop_more, at_drop_all, take_more_set, drop-set-lt, drop-drop, length-append, length-take-le}
 use Rattle.std.proofs.lemmas.Bool.{and_parts}
 use mathlib.Core.Bool.{false≢true}
@@ -57,6 +57,20 @@ behind_none o c e = ap (λ z. behind z c) e
 
 pub behind_some : {C : Type 0} (o : Option ℕ) (w : ℕ) (c : List (Version C)) → o ≡ Some w → behind o c ≡ drop 1 c
 behind_some o w c e = ap (λ z. behind z c) e
+
+-- the holder's change taken off a list, if its record is held
+pub behind_tested : {C : Type 0} (o : Option ℕ) (c : List (Version C)) (b : Bool) → b ≡ is_some o → b ≡ true → behind o c ≡ drop 1 c
+behind_tested None c b e t = absurd (false≢true (sym e ∙ t))
+behind_tested (Some w) c b e t = refl
+
+pub behind_untested : {C : Type 0} (o : Option ℕ) (c : List (Version C)) (b : Bool) → b ≡ is_some o → b ≡ false → behind o c ≡ c
+behind_untested None c b e t = refl
+behind_untested (Some w) c b e t = absurd (false≢true (sym t ∙ e))
+
+-- what is left of a list once its first is taken
+pub first_taken : {X : Type 0} (o : Option X) (xs ys : List X) → MatchOption o ((xs ≡ []) × (ys ≡ [])) (λ x. xs ≡ x ∷ ys) → ys ≡ drop 1 xs
+first_taken None xs ys e = e.1 ∙ sym (ap (drop 1) e.0)
+first_taken (Some x) xs ys e = sym (ap (drop 1) e)
 
 pub one_fewer : {C : Type 0} (o : Option ℕ) (w : ℕ) (c : List (Version C)) → o ≡ Some w → backed o c ≡ true → suc (length (drop 1 c)) ≡ length c
 one_fewer o w c e b = go c (ap (λ z. backed z c) (sym e) ∙ b)

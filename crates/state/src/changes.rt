@@ -1,5 +1,5 @@
-ghost use Rattle.std.specs.Prelude.{◌≡◌, ◌<◌, [], length, None, sum_by, ◌≢◌, slice_index_or, slice_set};
-ghost use Rattle.version_table.specs.Chains.{chains, capacity};
+ghost use Rattle.std.specs.Prelude.{◌≡◌, ◌<◌, length, None, sum_by, ◌≢◌};
+ghost use Rattle.version_table.specs.Chains.{chains, chain, capacity, Sets};
 ghost use Rattle.history.specs.Model.{changed, begun, refused_own};
 ghost use Rattle.state.specs.Matched.{Room, stacked};
 ghost use Rattle.state.specs.View.{view, Owned};
@@ -19,9 +19,8 @@ fn stack<K: Kind>(
     newest: Version<K::Change>,
 )
     requires within { r < length (chains table.old) }
-    requires room { Room holder (slice_index_or (chains table.old) r []) (sum_by length (chains table.old)) (capacity table.old) }
-    ensures room { capacity table.new ≡ capacity table.old }
-    ensures stacked { chains table.new ≡ slice_set (chains table.old) r (stacked K.ops holder newest (slice_index_or (chains table.old) r [])) }
+    requires room { Room holder (chain table.old r) (sum_by length (chains table.old)) (capacity table.old) }
+    ensures { Sets table.old r (stacked K.ops holder newest (chain table.old r)) table.new }
 {
     match holder {
         None => {

@@ -1,5 +1,5 @@
-ghost use Rattle.std.specs.Prelude.{◌≡◌, ℕ, ◌+◌, ◌<◌, [], length, drop, ◌≢◌, slice_index_or, slice_set};
-ghost use Rattle.version_table.specs.Chains.{chains, capacity};
+ghost use Rattle.std.specs.Prelude.{◌≡◌, ℕ, ◌+◌, ◌<◌, length, drop, ◌≢◌};
+ghost use Rattle.version_table.specs.Chains.{chains, chain, Sets};
 ghost use Rattle.history.specs.Model.{every, finish_stored, free_stored, finished};
 ghost use Rattle.state.specs.Matched.{stamped, taken_back};
 ghost use Rattle.state.specs.Steps.{one_changed};
@@ -14,8 +14,7 @@ use version_table::table::VersionTable;
 // Gives the first version of the chain r the time t.
 fn stamp<C: Copy>(table: &mut VersionTable<C>, r: usize, t: u32)
     requires { r < length (chains table.old) }
-    ensures room { capacity table.new ≡ capacity table.old }
-    ensures stamped { chains table.new ≡ slice_set (chains table.old) r (stamped t (slice_index_or (chains table.old) r [])) }
+    ensures { Sets table.old r (stamped t (chain table.old r)) table.new }
 {
     if let Some(own) = table.front(r) {
         let _kept = table.replace(
@@ -31,9 +30,8 @@ fn stamp<C: Copy>(table: &mut VersionTable<C>, r: usize, t: u32)
 // Takes the first version of the chain r out, and undoes it.
 fn take_back<K: Kind>(table: &mut VersionTable<K::Change>, r: usize, row: K::Row) -> K::Row
     requires { r < length (chains table.old) }
-    ensures room { capacity table.new ≡ capacity table.old }
-    ensures taken { chains table.new ≡ slice_set (chains table.old) r (drop 1 (slice_index_or (chains table.old) r [])) }
-    ensures row { result ≡ taken_back K.ops row (slice_index_or (chains table.old) r []) }
+    ensures taken { Sets table.old r (drop 1 (chain table.old r)) table.new }
+    ensures row { result ≡ taken_back K.ops row (chain table.old r) }
 {
     match table.pop(r) {
         Some(own) => K::undo(row, own.change),

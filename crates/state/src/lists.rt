@@ -5,7 +5,7 @@ ghost use Rattle.state.specs.View.{view};
 
 use crate::state::State;
 use kind::Kind;
-use version_table::walk::{times, times_past_first};
+use version_table::walk::write_times;
 
 impl<K: Kind> State<K> {
     // Writes the times of the versions of the record i at the front of a list, the newest first, and answers how many.
@@ -14,10 +14,11 @@ impl<K: Kind> State<K> {
         requires room { length (record_at K.ops (view self.now) i).chain ≤ length out.old }
         ensures { Listed (record_at K.ops (view self.now) i).chain out.old result out.new }
     {
-        match self.records[i].holder {
-            None => times(&self.table, i, out),
-            Some(_) => times_past_first(&self.table, i, out),
+        let mut versions = self.table.chain(i);
+        if self.records[i].holder.is_some() {
+            let _own = versions.next();
         }
+        write_times(versions, out)
     }
 
     // Writes the records that the writer w holds at the front of a list, and answers how many.

@@ -5,7 +5,7 @@ ghost use Rattle.state.specs.View.{view, Placed};
 use crate::state::State;
 use history::fault::{StoreCause, StoreFault};
 use kind::Kind;
-use version_table::walk::{read_back, read_past_first};
+use version_table::walk::lead_back;
 
 impl<K: Kind> State<K> {
     // The clock.
@@ -31,17 +31,15 @@ impl<K: Kind> State<K> {
         ensures { result ≡ reading K.ops (record_at K.ops (view self.now) i) t }
     {
         let entry = self.records[i];
-        let mut reached = entry.row;
-        match entry.holder {
-            None => read_back::<K>(&self.table, i, t, &mut reached),
-            Some(_) => {
-                if let Some(own) = self.table.front(i) {
-                    reached = K::undo(reached, own.change);
-                }
-                read_past_first::<K>(&self.table, i, t, &mut reached);
-            }
-        }
-        reached
+        let mut versions = self.table.chain(i);
+        let finished = match entry.holder {
+            None => entry.row,
+            Some(_) => match versions.next() {
+                None => entry.row,
+                Some(own) => K::undo(entry.row, own.change),
+            },
+        };
+        lead_back::<K>(versions, t, finished)
     }
 
     // What the writer w sees of the record i.

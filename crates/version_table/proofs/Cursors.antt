@@ -1,16 +1,15 @@
 -- A place in a chain: what is read there, and what a write and a cut make.
-use Rattle.std.proofs.Common.{◌≡◌, ℕ, zero, suc, ◌+◌, ◌<◌, ◌≤◌, Bool, cond, ltb, List, [], ◌∷◌, ◌++◌, map, length, get_or, take, drop, set, is_some, Some, None, Option, sym, refl, ap, ◌∙◌, arith, MatchOption}
+use Rattle.std.proofs.Common.{◌≡◌, ℕ, zero, suc, ◌+◌, ◌<◌, ◌≤◌, List, [], ◌∷◌, ◌++◌, map, length, get_or, take, drop, set, Some, None, Option, sym, refl, ap, ◌∙◌, arith, MatchOption}
 use Rattle.std.specs.List.{slice_get}
 use Rattle.std.proofs.lemmas.List.{map-set, set-get_or}
 use Rattle.std.proofs.lemmas.List.Sums.{get_or-le-sum_by}
-use Rattle.std.proofs.lemmas.Bool.{lt-ltb}
 use Rattle.std.proofs.lemmas.Option.{slice_get_read, slice_get_past}
 use Rattle.chain.specs.declared.version.Version.{Version}
 use Rattle.links.specs.Walk.{count}
-use Rattle.links.specs.Meaning.{slots, size}
-use Rattle.links.proofs.Places.{slice_get_end, row_of, place_in}
+use Rattle.links.specs.Meaning.{slots, size, list}
+use Rattle.links.proofs.Places.{slice_get_inside, slice_get_end, row_of, place_in}
 use Rattle.version_table.specs.declared.table.VersionTable.{VersionTable}
-use Rattle.version_table.specs.Chains.{pick, chains}
+use Rattle.version_table.specs.Chains.{pick, chains, chain}
 use Rattle.version_table.proofs.Picks.{chain_is, chain_len, slot_len, slots_once, slice_get-pick, pick_write, replaced, count-slice_get, pick-append, pick-take}
 
 module _ {C : Type 0} (t : VersionTable C) (r k s : ℕ) (e : slice_get (get_or (slots t.links) r []) k ≡ Some s) where
@@ -38,7 +37,7 @@ module _ {C : Type 0} (t : VersionTable C) (r k s : ℕ) (e : slice_get (get_or 
 
 -- past the end of a chain there is nothing
 pub looked_past : {C : Type 0} (t : VersionTable C) (r k : ℕ) → slice_get (get_or (slots t.links) r []) k ≡ None → None ≡ slice_get (get_or (chains t) r []) k
-looked_past t r k e = sym (slice_get_past (get_or (chains t) r []) k (omega (arith, chain_len t r, slice_get_end (get_or (slots t.links) r []) k e)))
+looked_past t r k e = sym (slice_get_past (chain t r) k (omega (arith, chain_len t r, slice_get_end (list t.links r) k e)))
 
 pub written_past : {C : Type 0} (t : VersionTable C) (r k : ℕ) (x : Version C) → slice_get (get_or (slots t.links) r []) k ≡ None → chains t ≡ set (chains t) r (set (get_or (chains t) r []) k x)
 written_past t r k x e =
@@ -51,7 +50,7 @@ written_past t r k x e =
     set_past (x ∷ xs) (suc i) y h = ap (λ zs. x ∷ zs) (set_past xs i y (omega arith))
 
 -- the place k leaves the list of slots, and so the chain
-pub chain_cut : {C : Type 0} (t : VersionTable C) (r k : ℕ) (ms : List (List ℕ)) → ms ≡ set (slots t.links) r (take k (get_or (slots t.links) r []) ++ drop (k + 1) (get_or (slots t.links) r [])) → map (pick t.versions.items) ms ≡ set (chains t) r (take k (get_or (chains t) r []) ++ drop (k + 1) (get_or (chains t) r []))
+pub chain_cut : {C : Type 0} (t : VersionTable C) (r k : ℕ) (ms : List (List ℕ)) → ms ≡ set (slots t.links) r (take k (list t.links r) ++ drop (k + 1) (list t.links r)) → map (pick t.versions.items) ms ≡ set (chains t) r (take k (chain t r) ++ drop (k + 1) (chain t r))
 unfolding chains
 chain_cut t r k ms e =
     let vs = t.versions.items in
@@ -63,24 +62,20 @@ chain_cut t r k ms e =
     ∙ map-set (pick vs) ls r (take k L ++ drop (k + 1) L)
     ∙ ap (set (map (pick vs) ls) r) (pick-append vs (take k L) (drop (k + 1) L) ∙ (λ i. a.0 i ++ b.1 i) ∙ ap (λ M. take k M ++ drop (k + 1) M) (sym (chain_is t r)))
 
+-- a place of the chain is one of the list of slots
+pub inside_list : {C : Type 0} (t : VersionTable C) (r k : ℕ) → k < length (chain t r) → k < length (list t.links r)
+inside_list t r k h = omega (arith, chain_len t r)
+
+-- a slot stands at the place k, so a version does; and none does behind the last slot
+pub slot_inside : {C : Type 0} (t : VersionTable C) (r k s : ℕ) → Some s ≡ slice_get (list t.links r) k → k < length (chain t r)
+slot_inside t r k s e = omega (arith, chain_len t r, slice_get_inside (list t.links r) k s (sym e))
+
+pub slots_end : {C : Type 0} (t : VersionTable C) (r k : ℕ) → None ≡ slice_get (list t.links r) k → length (chain t r) ≤ k
+slots_end t r k e = omega (arith, chain_len t r, slice_get_end (list t.links r) k (sym e))
+
 -- the front of a chain
 pub front_is : {X : Type 0} (xs : List X) (o : Option X) → o ≡ slice_get xs 0 → MatchOption o (xs ≡ []) (λ x. xs ≡ x ∷ drop 1 xs)
 front_is [] None e = refl
 front_is [] (Some y) e = let z : ◌≡◌ {A = ℕ} 0 1 = cc in let f : ⊥ = omega arith in absurd f
 front_is (x ∷ xs) None e = let z : ◌≡◌ {A = ℕ} 0 1 = cc in let f : ⊥ = omega arith in absurd f
 front_is (x ∷ xs) (Some y) e = let q : x ≡ y = cc in ap (λ z. z ∷ xs) q
-
--- a write to the front, where there is one
-pub front_written : {X : Type 0} (cs ds : List (List X)) (r : ℕ) (x : X) (ok : Bool) → ok ≡ ltb 0 (length (get_or cs r [])) → ds ≡ set cs r (set (get_or cs r []) 0 x) → ds ≡ cond ok (set cs r (x ∷ drop 1 (get_or cs r []))) cs
-front_written {X} cs ds r x ok h e = go (get_or cs r []) refl ∙ ap (λ b. cond b (set cs r (x ∷ drop 1 (get_or cs r []))) cs) (sym h)
-  where
-    go : (L : List X) → get_or cs r [] ≡ L → ds ≡ cond (ltb 0 (length (get_or cs r []))) (set cs r (x ∷ drop 1 (get_or cs r []))) cs
-    go [] q = e ∙ ap (λ M. set cs r (set M 0 x)) q ∙ ap (set cs r) (sym q) ∙ set-get_or cs r [] ∙ sym (ap (λ M. cond (ltb 0 (length M)) (set cs r (x ∷ drop 1 M)) cs) q)
-    go (y ∷ L) q = e ∙ ap (λ M. set cs r (set M 0 x)) q ∙ sym (ap (λ M. cond (ltb 0 (length M)) (set cs r (x ∷ drop 1 M)) cs) q ∙ ap (λ b. cond b (set cs r (x ∷ L)) cs) (lt-ltb 0 (suc (length L)) (omega arith)))
-
-pub some_front : {X Y : Type 0} (xs : List X) (ys : List Y) (ok : Bool) → length xs ≡ length ys → ok ≡ is_some (slice_get xs 0) → ok ≡ ltb 0 (length ys)
-some_front xs ys ok e h = h ∙ go xs ∙ ap (ltb 0) e
-  where
-    go : {X : Type 0} (zs : List X) → is_some (slice_get zs 0) ≡ ltb 0 (length zs)
-    go [] = refl
-    go (z ∷ zs) = sym (lt-ltb 0 (suc (length zs)) (omega arith))

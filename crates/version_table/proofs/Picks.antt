@@ -1,8 +1,8 @@
 -- What a table of versions holds at the slots of a list, and what moving, adding and writing slots make of it.
-use Rattle.std.proofs.Common.{◌≡◌, ℕ, zero, suc, ◌+◌, ◌^◌, ◌<◌, ◌≤◌, Bool, true, false, ◌&&◌, ltb, ◌≢◌, List, [], ◌∷◌, ◌++◌, map, length, get_or, take, drop, set, replicate, Some, None, sum_by, Option, sym, refl, ap, ◌∙◌, subst, ⊎_elim, arith}
+use Rattle.std.proofs.Common.{◌≡◌, ℕ, zero, suc, ◌+◌, ◌<◌, ◌≤◌, Bool, true, false, ◌&&◌, ltb, ◌≢◌, List, [], ◌∷◌, ◌++◌, map, length, get_or, take, drop, set, replicate, Some, None, sum_by, Option, sym, refl, ap, ◌∙◌, subst, ⊎_elim, arith}
 use Rattle.std.proofs.lemmas.Bool.{cases_lt, lt-ltb, le-ltb, ltb-true}
 use Rattle.std.specs.List.{slice_get}
-use Rattle.std.proofs.lemmas.List.{get_or-map, get_or_past, length-map, length-set, get_or-set_same, set-set, set-get_or, map-set, take_more_set, append_assoc, append-nil, drop-set-lt, drop-drop}
+use Rattle.std.proofs.lemmas.List.{get_or-map, get_or_past, length-map, length-set, get_or-set_same, set-set, set-get_or, map-set}
 use Rattle.std.proofs.lemmas.List.Sums.{sum_by-cons, sum_by-set, get_or-le-sum_by}
 use Rattle.std.proofs.lemmas.Option.{slice_get-get_or, slice_get_read}
 use Rattle.links.specs.Walk.{walk, count, walks}
@@ -12,7 +12,7 @@ use Rattle.chain.specs.declared.version.Version.{Version}
 use Rattle.links.specs.Meaning.{slots, size, from}
 use Rattle.version_table.specs.Chains.{pick, onto, chains}
 use Rattle.links.proofs.Linked.{Run, good_run, count-cons, count-cons_other, count-cons_same, count-nil}
-use Rattle.links.proofs.Steps.{used_is, row_in}
+use Rattle.links.proofs.Steps.{row_in}
 use Rattle.links.proofs.Ways.{from_none}
 
 pub slice_get-set_other : {X : Type 0} (vs : List X) (i j : ℕ) (x : X) → j ≢ i → slice_get (set vs i x) j ≡ slice_get vs j
@@ -174,10 +174,6 @@ pub slots_once : (l : Links) (x : ℕ) → sum_by (count x) (slots l) ≤ 1
 unfolding slots
 slots_once l x = omega (arith, l.sound.1 x, sum_by-cons (count x) (walk l.next.items (length l.next.items) l.free) (walks l.next.items l.heads.items))
 
-pub slots_le : (l : Links) → sum_by length (slots l) ≤ size l
-unfolding slots size
-slots_le l = omega (arith, used_is l.next.items l.heads.items l.free l.used l.sound l.counted, l.counted)
-
 row_len : {C : Type 0} (k : VersionTable C) (r : ℕ) → r < length (slots k.links) → length (pick k.versions.items (get_or (slots k.links) r [])) ≡ length (get_or (slots k.links) r [])
 unfolding slots size
 row_len k r h =
@@ -221,10 +217,6 @@ row_empty vs ls r e = get_or_over (pick vs) (pick-nil vs) ls r ∙ ap (pick vs) 
 pub inside_versions : {C : Type 0} (k : VersionTable C) (s : ℕ) → s < size k.links → s < length k.versions.items
 inside_versions k s h = omega (arith, h, k.sized)
 
-pub list_small : (l : Links) (r : ℕ) → length (get_or (slots l) r []) < 2 ^ 63
-unfolding size
-list_small l r = ⊎_elim (λ (h : r < length (slots l)). omega (arith, get_or-le-sum_by length (slots l) r [] h, slots_le l, l.next.ok.0, l.next.ok.1, l.next.small)) (λ (h : length (slots l) ≤ r). omega (arith, ap length (get_or_past (slots l) r [] h))) (cases_lt r (length (slots l)))
-
 pub fresh_chains : {X : Type 0} (vs : List X) (n : ℕ) (ls : List (List ℕ)) → ls ≡ replicate n [] → map (pick vs) ls ≡ replicate n []
 fresh_chains vs n ls e = ap (map (pick vs)) e ∙ go n
   where
@@ -238,26 +230,6 @@ cursor k s at o v ea ef l ev = ap (λ x. pick k.versions.items (from k.links x))
 
 pub cursor_end : {C : Type 0} (k : VersionTable C) (at : Option ℕ) → at ≡ None → pick k.versions.items (from k.links at) ≡ []
 cursor_end k at e = ap (λ x. pick k.versions.items (from k.links x)) e ∙ ap (pick k.versions.items) (from_none k.links) ∙ pick-nil k.versions.items
-
-pub written_more : {X : Type 0} (f : X → ℕ) (out out0 : List ℕ) (n : ℕ) (v : X) (L : List X) (M : List ℕ) → take n out ++ map f (v ∷ L) ≡ M → drop n out ≡ drop n out0 → n < length out → (take (n + 1) (set out n (f v)) ++ map f L ≡ M) × (drop (n + 1) (set out n (f v)) ≡ drop (n + 1) out0)
-written_more f out out0 n v L M a d h =
-    let t = take_more_set out n (f v) h in
-    let s : n < n + 1 = omega arith in (
-      ap (λ x. x ++ map f L) t ∙ append_assoc (take n out) (f v ∷ []) (map f L) ∙ a,
-      drop-set-lt (n + 1) out n (f v) s ∙ sym (drop-drop 1 n out) ∙ ap (drop 1) d ∙ drop-drop 1 n out0,
-    )
-
-pub written_all : {X : Type 0} (f : X → ℕ) (T : List ℕ) (L : List X) (M : List ℕ) → T ++ map f L ≡ M → L ≡ [] → T ≡ M
-written_all f T L M a e = sym (append-nil T) ∙ ap (λ x. T ++ map f x) (sym e) ∙ a
-
-pub pick_tail : {X : Type 0} (vs : List X) (y : ℕ) (M : List ℕ) → y < length vs → drop 1 (pick vs (y ∷ M)) ≡ pick vs M
-pick_tail [] y M l = let f : ⊥ = omega arith in absurd f
-pick_tail (w ∷ ws) y M l = ap (drop 1) (pick_at (w ∷ ws) y (get_or (w ∷ ws) y w) M (slice_get-get_or (w ∷ ws) y w l))
-
--- a chain without its first version
-pub chain_tail : {C : Type 0} (k : VersionTable C) (r s : ℕ) (o : Option ℕ) → from k.links (Some s) ≡ get_or (slots k.links) r [] → from k.links (Some s) ≡ s ∷ from k.links o → s < size k.links → pick k.versions.items (from k.links o) ≡ drop 1 (get_or (chains k) r [])
-chain_tail k r s o e1 e2 l =
-    sym (ap (drop 1) (chain_is k r ∙ ap (pick k.versions.items) (sym e1 ∙ e2)) ∙ pick_tail k.versions.items s (from k.links o) (inside_versions k s l))
 
 -- what a push answers
 pub push_refused : (r n s m : ℕ) → (r < n → s ≡ m) → false ≡ (ltb r n && ltb s m)

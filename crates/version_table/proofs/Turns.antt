@@ -1,17 +1,16 @@
 -- One turn of pruning in place: the version at a place of the chain r leaves it, is joined into the next, or stays.
 use Rattle.std.proofs.Common.{◌≡◌, ℕ, zero, suc, ◌+◌, ◌<◌, ◌≤◌, Bool, true, false, List, [], ◌∷◌, ◌++◌, length, get_or, take, drop, set, Some, None, Option, sym, refl, ap, ◌∙◌, append_assoc, add-one, arith}
 use Rattle.std.specs.List.{slice_get}
-use Rattle.std.proofs.lemmas.List.{get_or-set_same, length-set, length-drop, take_more, drop_all, take_all, set-set}
+use Rattle.std.proofs.lemmas.List.{get_or-set_same, length-set, length-drop, take_more, drop_all, set-set}
 use Rattle.kind.specs.Kinds.{Ops, same}
 use Rattle.chain.specs.declared.version.Version.{Version}
-use Rattle.chain.specs.Pruning.{open_in, floor, absorb, join_versions, prune, prune_held}
+use Rattle.chain.specs.Pruning.{open_in, floor, absorb, join_versions, prune}
 use Rattle.chain.proofs.Rule.{keep, idle, join}
-use Rattle.links.specs.Meaning.{slots, before}
-use Rattle.links.proofs.Places.{row_in_range, slice_get_cut, before_cut, slice_get_inside, slice_get-get_or, slice_get_end, slice_get_drop}
+use Rattle.links.proofs.Places.{row_in_range, slice_get_inside, slice_get-get_or, slice_get_end, slice_get_drop}
 use Rattle.links.proofs.Ways.{set_again}
+use Rattle.links.specs.declared.cursor.Cursor.{Cursor}
 use Rattle.version_table.specs.declared.table.VersionTable.{VersionTable}
-use Rattle.version_table.specs.Chains.{chains}
-use Rattle.version_table.proofs.Picks.{chain_len, chains-rows}
+use Rattle.version_table.specs.Chains.{chains, chain, Sets}
 
 module _ {X : Type 0} where
   pub slice_get-cons : (xs : List X) (k : ℕ) (x : X) → slice_get xs k ≡ Some x → drop k xs ≡ x ∷ drop (k + 1) xs
@@ -52,32 +51,20 @@ module _ {Row Edit Change : Type 0} (k : Ops Row Edit Change) (C : List (Version
   pub absorb_last : slice_get C (i + 1) ≡ None → take i C ++ drop (i + 1) C ≡ take i C ++ absorb k p (drop (i + 1) C)
   absorb_last e = let d = drop_all (i + 1) C (slice_get_end C (i + 1) e) in ap (λ vs. take i C ++ vs) d ∙ sym (ap (λ vs. take i C ++ absorb k p vs) d)
 
--- the cursor at the place k, and the chain r, once that place has left the list of slots and the rest of the chain is X
-pub record After {C : Type 0} (t T : VersionTable C) (E : List (List (Version C))) (r k : ℕ) (link next : Option ℕ) (X : List (Version C)) : Type 0 where
-  pub behind : link ≡ before (get_or (slots T.links) r []) k
-  pub here : next ≡ slice_get (get_or (slots T.links) r []) k
-  pub others : chains T ≡ set E r (get_or (chains T) r [])
-  pub front : take k (get_or (chains T) r []) ≡ take k (get_or (chains t) r [])
-  pub rest : drop k (get_or (chains T) r []) ≡ X
+-- the chain r of the tables before and after a place k of it has left, where the rest is X now; E are the chains at the beginning
+pub record After {C : Type 0} (t T : VersionTable C) (E : List (List (Version C))) (r k : ℕ) (X : List (Version C)) : Type 0 where
+  pub others : chains T ≡ set E r (chain T r)
+  pub front : take k (chain T r) ≡ take k (chain t r)
+  pub rest : drop k (chain T r) ≡ X
 
-pub left : {C : Type 0} (t T : VersionTable C) (E : List (List (Version C))) (r k : ℕ) (link next : Option ℕ) (X : List (Version C)) → k < length (get_or (slots t.links) r []) → link ≡ before (get_or (slots t.links) r []) k → next ≡ slice_get (get_or (slots t.links) r []) (k + 1) → chains t ≡ set E r (get_or (chains t) r []) → slots T.links ≡ set (slots t.links) r (take k (get_or (slots t.links) r []) ++ drop (k + 1) (get_or (slots t.links) r [])) → chains T ≡ set (chains t) r (take k (get_or (chains t) r []) ++ X) → After t T E r k link next X
-left t T E r k link next X h el en ec es et =
-    let L = get_or (slots t.links) r [] in
-    let C = get_or (chains t) r [] in
-    let row = row_in_range (slots t.links) r k h in
-    let slot_row : get_or (slots T.links) r [] ≡ take k L ++ drop (k + 1) L = ap (λ ls. get_or ls r []) es ∙ get_or-set_same (slots t.links) r _ [] row in
-    let inside : k ≤ length L = omega arith in
-    let short : k ≤ length C = omega (arith, chain_len t r) in
-    let rows : r < length (chains t) = omega (arith, chains-rows t) in
+pub left : {C : Type 0} (t T : VersionTable C) (E : List (List (Version C))) (r k : ℕ) (X : List (Version C)) → k < length (chain t r) → chains t ≡ set E r (chain t r) → Sets t r (take k (chain t r) ++ X) T → After t T E r k X
+left t T E r k X h ec et =
+    let C = chain t r in
+    let short : k ≤ length C = omega arith in
+    let rows : r < length (chains t) = row_in_range (chains t) r k h in
     let wide : r < length E = omega (arith, ap length ec, length-set E r C) in
-    let both = set_again E (chains t) (chains T) r (take k C ++ X) wide ec et in
-    record {
-      behind = el ∙ sym (ap (λ M. before M k) slot_row ∙ before_cut L k (drop (k + 1) L) inside);
-      here = en ∙ sym (ap (λ M. slice_get M k) slot_row ∙ slice_get_cut L k h);
-      others = both.0;
-      front = ap (take k) both.1 ∙ take_front C X k short;
-      rest = ap (drop k) both.1 ∙ drop_front C X k short;
-    }
+    let both = set_again E (chains t) (chains T) r (take k C ++ X) wide ec et.lists in
+    record { others = both.0; front = ap (take k) both.1 ∙ take_front C X k short; rest = ap (drop k) both.1 ∙ drop_front C X k short }
 
 -- a chain rewritten, and then a place of it cut out
 pub cut_again : {V : Type 0} (cs cs1 cs2 : List (List V)) (r k : ℕ) (D Y : List V) → r < length cs → cs1 ≡ set cs r D → cs2 ≡ set cs1 r (take k (get_or cs1 r []) ++ drop (k + 1) (get_or cs1 r [])) → take k D ++ drop (k + 1) D ≡ Y → cs2 ≡ set cs r Y
@@ -85,15 +72,17 @@ cut_again cs cs1 cs2 r k D Y h e f q =
     let row : get_or cs1 r [] ≡ D = ap (λ z. get_or z r []) e ∙ get_or-set_same cs r D [] h in
     f ∙ ap (λ z. set cs1 r (take k z ++ drop (k + 1) z)) row ∙ ap (set cs1 r) q ∙ ap (λ z. set z r Y) e ∙ set-set cs r D Y
 
--- nothing stands at the place k or behind it
-pub ended : {C : Type 0} (t : VersionTable C) (E : List (List (Version C))) (r k : ℕ) (at : Option ℕ) → at ≡ slice_get (get_or (slots t.links) r []) k → at ≡ None → (take k (get_or (chains t) r []) ≡ get_or (chains t) r []) × (drop k (get_or (chains t) r []) ≡ [])
-ended t E r k at ea en =
-    let h : length (get_or (chains t) r []) ≤ k = omega (arith, chain_len t r, slice_get_end (get_or (slots t.links) r []) k (sym ea ∙ en)) in
-    (take_all k (get_or (chains t) r []) h, drop_all k (get_or (chains t) r []) h)
+-- a version stands at the cursor
+pub inside : {C : Type 0} (t : VersionTable C) (u : Cursor) (v : Version C) → Some v ≡ slice_get (chain t u.list) u.place → u.place < length (chain t u.list)
+inside t u v e = slice_get_inside (chain t u.list) u.place v (sym e)
+
+-- what is read at the next place
+pub next_of : {C : Type 0} (t : VersionTable C) (u n : Cursor) (o : Option (Version C)) → n.list ≡ u.list → n.place ≡ u.place + 1 → o ≡ slice_get (chain t n.list) n.place → o ≡ slice_get (chain t u.list) (u.place + 1)
+next_of t u n o l p e = e ∙ (λ j. slice_get (chain t (l j)) (p j))
 
 -- one version less is still to come
-pub fewer : {C : Type 0} (t T : VersionTable C) (r k : ℕ) (X : List (Version C)) → k < length (get_or (slots t.links) r []) → drop k (get_or (chains T) r []) ≡ X → length X ≤ length (drop (k + 1) (get_or (chains t) r [])) → length (drop k (get_or (chains T) r [])) < length (drop k (get_or (chains t) r []))
-fewer t T r k X h e l = omega (arith, ap length e, length-drop k (get_or (chains t) r []), length-drop (k + 1) (get_or (chains t) r []), chain_len t r)
+pub fewer : {X : Type 0} (C D : List X) (k : ℕ) (R : List X) → k < length C → drop k D ≡ R → length R ≤ length (drop (k + 1) C) → length (drop k D) < length (drop k C)
+fewer C D k R h e l = omega (arith, ap length e, length-drop k C, length-drop (k + 1) C)
 
 -- the three ways of a turn at the version p, the i-th of the chain C; `older` is the next one
 module _ {Row Edit Change : Type 0} (k : Ops Row Edit Change) (os : ℕ → ℕ) (C : List (Version Change)) (i : ℕ) (p : Version Change) (older : Option (Version Change)) (r : Row) (here : slice_get C i ≡ Some p) (next : older ≡ slice_get C (i + 1)) where
@@ -118,23 +107,3 @@ module _ {Row Edit Change : Type 0} (k : Ops Row Edit Change) (os : ℕ → ℕ)
 pub absorb_short : {Row Edit Change : Type 0} (k : Ops Row Edit Change) (p : Version Change) (vs : List (Version Change)) → length (absorb k p vs) ≤ length vs
 absorb_short k p [] = omega arith
 absorb_short k p (v ∷ vs) = omega arith
-
--- a version stands at the place k
-pub inside : {C : Type 0} (t : VersionTable C) (r k : ℕ) (v : Version C) → Some v ≡ slice_get (get_or (chains t) r []) k → k < length (get_or (slots t.links) r [])
-inside t r k v e = omega (arith, chain_len t r, slice_get_inside (get_or (chains t) r []) k v (sym e))
-
--- pruning behind a first version
-module _ {Row Edit Change : Type 0} (k : Ops Row Edit Change) (os : ℕ → ℕ) (place : Row) (C : List (Version Change)) where
-  pub held_none : slice_get C 0 ≡ None → prune_held k os place C ≡ C
-  held_none e = ap (prune_held k os place) (empty C e) ∙ sym (empty C e)
-    where
-      empty : (xs : List (Version Change)) → slice_get xs 0 ≡ None → xs ≡ []
-      empty [] f = refl
-      empty (x ∷ xs) f = let z : ◌≡◌ {A = ℕ} 0 1 = cc in let n : ⊥ = omega arith in absurd n
-
-  pub held_first : (v : Version Change) (r : Row) → slice_get C 0 ≡ Some v → r ≡ k.undo place v.change → take 1 C ++ prune k os r (drop 1 C) ≡ prune_held k os place C
-  held_first v r e q = go C e
-    where
-      go : (xs : List (Version Change)) → slice_get xs 0 ≡ Some v → take 1 xs ++ prune k os r (drop 1 xs) ≡ prune_held k os place xs
-      go [] f = let z : ◌≡◌ {A = ℕ} 0 1 = cc in let n : ⊥ = omega arith in absurd n
-      go (x ∷ xs) f = let s : v ≡ x = cc in ap (λ y. x ∷ prune k os y xs) (q ∙ ap (λ y. k.undo place y.change) s)

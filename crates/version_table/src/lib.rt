@@ -5,4 +5,5 @@ pub mod cursor;
 pub mod ops;
 pub mod prune;
 pub mod table;
+pub mod versions;
 pub mod walk;

@@ -1,16 +1,17 @@
 // Pruning a record's chain in place, against the open times: one visit for each version, newest first.
-ghost use Rattle.std.specs.Prelude.{◌≡◌, ◌+◌, ◌<◌, [], ◌++◌, length, take, drop, Some, slice_index_or, slice_set};
+ghost use Rattle.std.specs.Prelude.{◌≡◌, ◌+◌, ◌<◌, ◌++◌, length, take, drop, Some};
 ghost use Rattle.std.specs.List.{slice_get};
 ghost use Rattle.lease.specs.Times.{opens, least as lowest};
 ghost use Rattle.chain.specs.Pruning.{open_in, floor, absorb, prune, prune_held};
-ghost use Rattle.links.specs.Meaning.{slots, before};
-ghost use Rattle.version_table.specs.Chains.{chains, capacity};
+ghost use Rattle.links.specs.Meaning.{Stands};
+ghost use Rattle.version_table.specs.Chains.{chain, Sets};
 
 use crate::table::VersionTable;
 use chain::gap::open_between;
 use chain::version::Version;
 use kind::Kind;
 use lease::registry::Registry;
+use links::cursor::Cursor;
 
 // Whether a time is open below a version and not below the next one; `least` is the least open time.
 fn apart<C: Copy, R: Registry>(
@@ -28,27 +29,17 @@ fn apart<C: Copy, R: Registry>(
     }
 }
 
-// The version at the place k is joined into the next one, or dropped where it is the last.
-fn join_down<K: Kind>(
-    table: &mut VersionTable<K::Change>,
-    r: usize,
-    k: usize,
-    link: Option<u16>,
-    hand: Version<K::Change>,
-    next: Option<u16>,
-)
-    requires inside { k < length (slice_index_or (slots table.old.links) r []) }
-    requires before { link ≡ before (slice_index_or (slots table.old.links) r []) k }
-    requires next { next ≡ slice_get (slice_index_or (slots table.old.links) r []) (k + 1) }
-    ensures room { capacity table.new ≡ capacity table.old }
-    ensures links { slots table.new.links ≡ slice_set (slots table.old.links) r (take k (slice_index_or (slots table.old.links) r []) ++ drop (k + 1) (slice_index_or (slots table.old.links) r [])) }
-    ensures joined { chains table.new ≡ slice_set (chains table.old) r (take k (slice_index_or (chains table.old) r []) ++ absorb K.ops hand (drop (k + 1) (slice_index_or (chains table.old) r []))) }
+// The version at the cursor is joined into the next one, or dropped where it is the last.
+fn join_down<K: Kind>(table: &mut VersionTable<K::Change>, cursor: Cursor, hand: Version<K::Change>)
+    requires stands { Stands table.old.links cursor }
+    requires inside { cursor.place < length (chain table.old cursor.list) }
+    ensures joined { Sets table.old cursor.list (take cursor.place (chain table.old cursor.list) ++ absorb K.ops hand (drop (cursor.place + 1) (chain table.old cursor.list))) table.new }
+    ensures stands { Stands table.new.links cursor }
 {
-    if let Some(older) = table.look(r, k + 1, next) {
+    let next = table.links.step(cursor);
+    if let Some(older) = table.look(next) {
         let change = K::join(hand.change, older.change);
-        table.write(
-            r,
-            k + 1,
+        let _written = table.write(
             next,
             Version {
                 time: hand.time,
@@ -56,48 +47,39 @@ fn join_down<K: Kind>(
             },
         );
     }
-    table.cut(r, k, link);
+    table.cut(cursor);
 }
 
-// Prunes the chain r from the place k on, which leads back from the row.
+// Prunes a chain from the cursor on, which leads back from the row.
 fn prune_from<K: Kind, R: Registry>(
     table: &mut VersionTable<K::Change>,
-    r: usize,
     registry: &R,
     row: K::Row,
-    start: usize,
-    link: Option<u16>,
-    first: Option<u16>,
+    start: Cursor,
 )
-    requires before { link ≡ before (slice_index_or (slots table.old.links) r []) start }
-    requires first { first ≡ slice_get (slice_index_or (slots table.old.links) r []) start }
-    ensures room { capacity table.new ≡ capacity table.old }
-    ensures pruned { chains table.new ≡ slice_set (chains table.old) r (take start (slice_index_or (chains table.old) r []) ++ prune K.ops (opens (R.leases registry.now)) row (drop start (slice_index_or (chains table.old) r []))) }
+    requires { Stands table.old.links start }
+    ensures { Sets table.old start.list (take start.place (chain table.old start.list) ++ prune K.ops (opens (R.leases registry.now)) row (drop start.place (chain table.old start.list))) table.new }
 {
     let Some(least) = registry.least_from(0) else {
-        table.drop_from(r, start, link, first);
+        table.drop_from(start);
         return;
     };
     let mut reached = row;
-    let mut k = start;
-    let mut before = link;
-    let mut at = first;
-    while let Some(hand) = table.look(r, k, at) {
-        let next = table.links.follow(r, k, at);
-        let older = table.look(r, k + 1, next);
+    let mut here = start;
+    while let Some(hand) = table.look(here) {
+        let next = table.links.step(here);
+        let older = table.look(next);
         if apart(registry, least, hand.time, older) {
             let back = K::undo(reached, hand.change);
             if K::same(reached, back) {
-                table.cut(r, k, before);
+                table.cut(here);
             } else {
                 reached = back;
-                before = at;
-                k += 1;
+                here = next;
             }
         } else {
-            join_down::<K>(table, r, k, before, hand, next);
+            join_down::<K>(table, here, hand);
         }
-        at = next;
     }
 }
 
@@ -108,11 +90,9 @@ pub fn prune_chain<K: Kind, R: Registry>(
     registry: &R,
     row: K::Row,
 )
-    ensures room { capacity table.new ≡ capacity table.old }
-    ensures pruned { chains table.new ≡ slice_set (chains table.old) r (prune K.ops (opens (R.leases registry.now)) row (slice_index_or (chains table.old) r [])) }
+    ensures { Sets table.old r (prune K.ops (opens (R.leases registry.now)) row (chain table.old r)) table.new }
 {
-    let first = table.links.first(r);
-    prune_from::<K, R>(table, r, registry, row, 0, None, first);
+    prune_from::<K, R>(table, registry, row, Cursor::front(r));
 }
 
 // Prunes the chain r behind its first version, a holder's change, which leads back from the row in place.
@@ -122,13 +102,12 @@ pub fn prune_behind<K: Kind, R: Registry>(
     registry: &R,
     place: K::Row,
 )
-    ensures room { capacity table.new ≡ capacity table.old }
-    ensures pruned { chains table.new ≡ slice_set (chains table.old) r (prune_held K.ops (opens (R.leases registry.now)) place (slice_index_or (chains table.old) r [])) }
+    ensures { Sets table.old r (prune_held K.ops (opens (R.leases registry.now)) place (chain table.old r)) table.new }
 {
-    let first = table.links.first(r);
-    if let Some(held) = table.look(r, 0, first) {
-        let next = table.links.follow(r, 0, first);
+    let first = Cursor::front(r);
+    if let Some(held) = table.look(first) {
+        let next = table.links.step(first);
         let finished = K::undo(place, held.change);
-        prune_from::<K, R>(table, r, registry, finished, 1, first, next);
+        prune_from::<K, R>(table, registry, finished, next);
     }
 }

@@ -16,5 +16,5 @@ returns g c =
           in_front k (opens (g.R.Registry.leases c.args.registry.now)) c.args.row.now c.edit-edited.result.0 c.args.edit c.args.time c.edit-edited.result.1 _ cs (chains c.push.new.self) (chains c.prune_chain.new.table)
           made (sym yes ∙ c.push.ensures.done)
           (c.push.ensures.pushed ∙ ap (λ b. cond b (set cs 0 (record { time = c.args.time; change = c.edit-edited.result.1 } ∷ get_or cs 0 [])) cs) yes)
-          c.prune_chain.ensures.pruned;
+          c.prune_chain.ensures.lists;
     }

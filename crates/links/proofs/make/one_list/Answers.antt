@@ -1,16 +1,14 @@
-use Rattle.std.proofs.Common.{sym, refl, rules}
-use Rattle.links.specs.Walk.{links_below, link_below}
-use Rattle.links.proofs.Fresh.{links_below_more, link_below_more}
+use Rattle.std.proofs.Common.{rules}
+use Rattle.links.specs.Walk.{links_below}
+use Rattle.links.proofs.Fresh.{links_below_more}
 use Rattle.links.proofs.make.one_list.Goals as goal
 
-pub loop-i-init : goal.loop-i-init
-unfolding links_below link_below
-loop-i-init c = (search rules, refl)
+pub loop-slot-init : goal.loop-slot-init
+unfolding links_below
+loop-slot-init c = search rules
 
-pub loop-i-preserved : goal.loop-i-preserved
-loop-i-preserved c =
+pub loop-slot-preserved : goal.loop-slot-preserved
+loop-slot-preserved c =
     let p = c.in_ok-push.ensures.items in
-    let i0 = c.loop-i.invariant.0 in
-    let i1 = c.loop-i.invariant.1 in
-    let a = links_below_more c.loop-i.i in
-    (cc, sym (link_below_more c.loop-i.i))
+    let a = links_below_more c.loop-slot.slot in
+    cc

@@ -10,4 +10,4 @@ returns-in_default g c =
     let r = c.args.r in
     let e = c.in_default.ensures in
     let q = ap (λ o. stacked g.K.Kind.ops o c.args.newest (get_or cs r [])) c.in-Some.is ∙ ap (stacked g.K.Kind.ops (Some c.in-Some.field-0) c.args.newest) e ∙ sym e in
-    record { room = refl; stacked = sym (ap (set cs r) q ∙ set-get_or cs r []) }
+    record { room = refl; lists = sym (ap (set cs r) q ∙ set-get_or cs r []) }

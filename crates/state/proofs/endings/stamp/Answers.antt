@@ -8,4 +8,4 @@ pub returns-in_default : goal.returns-in_default
 returns-in_default g c =
     let cs = chains c.args.table.now in
     let e = c.in_default.ensures in
-    record { room = refl; stamped = sym (ap (set cs c.args.r) (ap (stamped c.args.t) e ∙ sym e) ∙ set-get_or cs c.args.r []) }
+    record { room = refl; lists = sym (ap (set cs c.args.r) (ap (stamped c.args.t) e ∙ sym e) ∙ set-get_or cs c.args.r []) }

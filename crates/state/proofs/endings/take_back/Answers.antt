@@ -9,7 +9,6 @@ returns-in-None g c =
     let cs = chains c.args.table.now in
     let e = c.in-None.ensures in
     record {
-      room = e.room;
-      taken = e.popped.0 ∙ sym (ap (set cs c.args.r) (ap (drop 1) e.popped.1 ∙ sym e.popped.1) ∙ set-get_or cs c.args.r []);
+      taken = record { room = e.room; lists = e.popped.0 ∙ sym (ap (set cs c.args.r) (ap (drop 1) e.popped.1 ∙ sym e.popped.1) ∙ set-get_or cs c.args.r []) };
       row = sym (ap (taken_back g.K.Kind.ops c.args.row) e.popped.1);
     }

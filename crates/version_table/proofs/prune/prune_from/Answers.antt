@@ -1,15 +1,14 @@
-use Rattle.std.proofs.Common.{◌≡◌, ◌+◌, [], ◌++◌, get_or, take, drop, set, sym, refl, ap, ◌∙◌, append-nil, add-one, arith, rules}
-use Rattle.std.proofs.lemmas.List.{set-get_or, length-drop, drop_all, take_all}
+use Rattle.std.proofs.Common.{◌≡◌, ℕ, ◌+◌, ◌++◌, length, take, drop, set, sym, ap, ◌∙◌, subst, append-nil, arith}
+use Rattle.std.proofs.lemmas.List.{length-drop, drop_all, take_all}
 use Rattle.lease.specs.Times.{opens}
 use Rattle.kind.proofs.Telling.{decided}
 use Rattle.chain.specs.Pruning.{absorb, prune}
 use Rattle.chain.proofs.Times.{none_open}
 use Rattle.chain.proofs.Rule.{nothing}
-use Rattle.links.specs.Meaning.{slots, before}
 use Rattle.links.proofs.Places.{slice_get_end}
-use Rattle.version_table.specs.Chains.{chains}
-use Rattle.version_table.proofs.Picks.{chain_len, list_small}
-use Rattle.version_table.proofs.Turns.{After, left, inside, fewer, kept_turn, idle_turn, join_turn, absorb_short}
+use Rattle.version_table.specs.Chains.{chains, chain, Sets}
+use Rattle.version_table.proofs.Cursors.{inside_list}
+use Rattle.version_table.proofs.Turns.{After, left, inside, next_of, fewer, kept_turn, idle_turn, join_turn, absorb_short}
 use Rattle.version_table.proofs.prune.prune_from.Given as given
 use Rattle.version_table.proofs.prune.prune_from.Goals as goal
 
@@ -17,91 +16,102 @@ pub returns-in_default : goal.returns-in_default
 returns-in_default g c =
     let k = g.K.Kind.ops in
     let ls = g.R.Registry.leases c.args.registry.now in
-    let C = get_or (chains c.args.table.now) c.args.r [] in
-    let none = nothing k (opens ls) (none_open ls c.in_default.ensures) (drop c.args.start C) c.args.row in
+    let i = c.args.start.place in
+    let C = chain c.args.table.now c.args.start.list in
+    let none = nothing k (opens ls) (none_open ls c.in_default.ensures) (drop i C) c.args.row in
     record {
       room = c.drop_from.ensures.room;
-      pruned = c.drop_from.ensures.dropped ∙ ap (set (chains c.args.table.now) c.args.r) (sym (ap (λ vs. take c.args.start C ++ vs) none ∙ append-nil (take c.args.start C)));
+      lists = c.drop_from.ensures.lists ∙ ap (set (chains c.args.table.now) c.args.start.list) (sym (ap (λ vs. take i C ++ vs) none ∙ append-nil (take i C)));
     }
 
-pub loop-hand-init : goal.loop-hand-init
-loop-hand-init g c = (c.requires.before, c.requires.first, refl, sym (set-get_or (chains c.args.table.now) c.args.r []), refl)
+pub step-next-requires-clause-inside : goal.step-next-requires-clause-inside
+step-next-requires-clause-inside g c = inside_list c.loop-hand.table c.loop-hand.here.list c.loop-hand.here.place (inside c.loop-hand.table c.loop-hand.here c.in-Some-look.hand c.in-Some-look.ensures)
 
-pub overflow_add-k : goal.overflow_add-k
-overflow_add-k g c = let h = inside c.loop-hand.table c.args.r c.loop-hand.k c.in-Some-look.hand c.in-Some-look.ensures in let s = list_small c.loop-hand.table.links c.args.r in search rules
+pub cut-requires-clause-inside : goal.cut-requires-clause-inside
+cut-requires-clause-inside g c = inside c.loop-hand.table c.loop-hand.here c.in-Some-look.hand c.in-Some-look.ensures
 
-pub overflow_add-k-else-same : goal.overflow_add-k-else-same
-overflow_add-k-else-same g c = let h = inside c.loop-hand.table c.args.r c.loop-hand.k c.in-Some-look.hand c.in-Some-look.ensures in let s = list_small c.loop-hand.table.links c.args.r in search rules
-
-pub cut-requires : goal.cut-requires
-cut-requires g c = record { inside = inside c.loop-hand.table c.args.r c.loop-hand.k c.in-Some-look.hand c.in-Some-look.ensures; before = c.loop-hand.invariant.0 }
-
-pub join_down-requires : goal.join_down-requires
-join_down-requires g c = record { inside = inside c.loop-hand.table c.args.r c.loop-hand.k c.in-Some-look.hand c.in-Some-look.ensures; before = c.loop-hand.invariant.0; next = c.follow-next.ensures }
+pub join_down-requires-clause-inside : goal.join_down-requires-clause-inside
+join_down-requires-clause-inside g c = inside c.loop-hand.table c.loop-hand.here c.in-Some-look.hand c.in-Some-look.ensures
 
 -- the version at hand is joined into the next one
-joined : (g : given.Over) (c : goal.After-join_down g) → After c.loop-hand.table c.join_down.new.table (chains c.args.table.now) c.args.r c.loop-hand.k c.loop-hand.before c.follow-next.result (absorb g.K.Kind.ops c.in-Some-look.hand (drop (c.loop-hand.k + 1) (get_or (chains c.loop-hand.table) c.args.r [])))
-joined g c =
-    left c.loop-hand.table c.join_down.new.table (chains c.args.table.now) c.args.r c.loop-hand.k c.loop-hand.before c.follow-next.result _
-    (inside c.loop-hand.table c.args.r c.loop-hand.k c.in-Some-look.hand c.in-Some-look.ensures) c.loop-hand.invariant.0 c.follow-next.ensures c.loop-hand.invariant.3 c.join_down.ensures.links c.join_down.ensures.joined
+joined : (g : given.Over) (c : goal.After-join_down g) → After c.loop-hand.table c.join_down.new.table (chains c.args.table.now) c.loop-hand.here.list c.loop-hand.here.place (absorb g.K.Kind.ops c.in-Some-look.hand (drop (c.loop-hand.here.place + 1) (chain c.loop-hand.table c.loop-hand.here.list)))
+joined g c = left _ _ _ _ _ _ (inside c.loop-hand.table c.loop-hand.here c.in-Some-look.hand c.in-Some-look.ensures) c.loop-hand.invariant.3 c.join_down.ensures.joined
 
 pub loop-hand-smaller : goal.loop-hand-smaller
 loop-hand-smaller g c =
-    fewer c.loop-hand.table c.join_down.new.table c.args.r c.loop-hand.k _ (inside c.loop-hand.table c.args.r c.loop-hand.k c.in-Some-look.hand c.in-Some-look.ensures) (joined g c).rest
-    (absorb_short g.K.Kind.ops c.in-Some-look.hand (drop (c.loop-hand.k + 1) (get_or (chains c.loop-hand.table) c.args.r [])))
+    let u = c.loop-hand.here in
+    fewer (chain c.loop-hand.table u.list) (chain c.join_down.new.table u.list) u.place _ (inside c.loop-hand.table c.loop-hand.here c.in-Some-look.hand c.in-Some-look.ensures) (joined g c).rest
+    (absorb_short g.K.Kind.ops c.in-Some-look.hand (drop (u.place + 1) (chain c.loop-hand.table u.list)))
 
 pub loop-hand-preserved : goal.loop-hand-preserved
 loop-hand-preserved g c =
     let k = g.K.Kind.ops in
     let os = opens (g.R.Registry.leases c.args.registry.now) in
-    let C = get_or (chains c.loop-hand.table) c.args.r [] in
+    let u = c.loop-hand.here in
+    let i = c.loop-hand.invariant in
     let w = joined g c in
-    let turn = join_turn k os C c.loop-hand.k c.in-Some-look.hand c.look-older.result c.loop-hand.reached (sym c.in-Some-look.ensures) c.look-older.ensures (sym c.apart.ensures ∙ c.if-apart.false) in
-    (w.behind, w.here, c.join_down.ensures.room ∙ c.loop-hand.invariant.2, w.others, (λ j. w.front j ++ prune k os c.loop-hand.reached (w.rest j)) ∙ turn ∙ c.loop-hand.invariant.4)
+    let turn = join_turn k os (chain c.loop-hand.table u.list) u.place c.in-Some-look.hand c.look-older.result c.loop-hand.reached (sym c.in-Some-look.ensures) (next_of c.loop-hand.table u c.step-next.result c.look-older.result c.step-next.ensures.list c.step-next.ensures.place c.look-older.ensures) (sym c.apart.ensures ∙ c.if-apart.false) in
+    (i.0, c.join_down.ensures.stands, c.join_down.ensures.joined.room ∙ i.2, w.others, (λ j. w.front j ++ prune k os c.loop-hand.reached (w.rest j)) ∙ turn ∙ i.4)
 
 -- the version at hand changes nothing, and leaves
-dropped : (g : given.Over) (c : goal.After-cut g) → After c.loop-hand.table c.cut.new.self (chains c.args.table.now) c.args.r c.loop-hand.k c.loop-hand.before c.follow-next.result (drop (c.loop-hand.k + 1) (get_or (chains c.loop-hand.table) c.args.r []))
-dropped g c =
-    left c.loop-hand.table c.cut.new.self (chains c.args.table.now) c.args.r c.loop-hand.k c.loop-hand.before c.follow-next.result _
-    (inside c.loop-hand.table c.args.r c.loop-hand.k c.in-Some-look.hand c.in-Some-look.ensures) c.loop-hand.invariant.0 c.follow-next.ensures c.loop-hand.invariant.3 c.cut.ensures.links c.cut.ensures.cut
+dropped : (g : given.Over) (c : goal.After-cut g) → After c.loop-hand.table c.cut.new.self (chains c.args.table.now) c.loop-hand.here.list c.loop-hand.here.place (drop (c.loop-hand.here.place + 1) (chain c.loop-hand.table c.loop-hand.here.list))
+dropped g c = left _ _ _ _ _ _ (inside c.loop-hand.table c.loop-hand.here c.in-Some-look.hand c.in-Some-look.ensures) c.loop-hand.invariant.3 c.cut.ensures.cut
 
 pub loop-hand-smaller-then-same : goal.loop-hand-smaller-then-same
-loop-hand-smaller-then-same g c = fewer c.loop-hand.table c.cut.new.self c.args.r c.loop-hand.k _ (inside c.loop-hand.table c.args.r c.loop-hand.k c.in-Some-look.hand c.in-Some-look.ensures) (dropped g c).rest (omega arith)
+loop-hand-smaller-then-same g c =
+    let u = c.loop-hand.here in
+    fewer (chain c.loop-hand.table u.list) (chain c.cut.new.self u.list) u.place _ (inside c.loop-hand.table c.loop-hand.here c.in-Some-look.hand c.in-Some-look.ensures) (dropped g c).rest (omega arith)
 
 pub loop-hand-preserved-then-same : goal.loop-hand-preserved-then-same
 loop-hand-preserved-then-same g c =
     let k = g.K.Kind.ops in
     let os = opens (g.R.Registry.leases c.args.registry.now) in
-    let C = get_or (chains c.loop-hand.table) c.args.r [] in
+    let u = c.loop-hand.here in
+    let i = c.loop-hand.invariant in
     let r = c.loop-hand.reached in
     let back = c.undo-back.result in
     let w = dropped g c in
-    let turn = idle_turn k os C c.loop-hand.k c.in-Some-look.hand c.look-older.result r (sym c.in-Some-look.ensures) c.look-older.ensures back (sym c.apart.ensures ∙ c.if-apart.true) c.undo-back.ensures (sym (decided k c.same.result r back c.same.ensures) ∙ c.if-same.true) in
-    (w.behind, w.here, c.cut.ensures.room ∙ c.loop-hand.invariant.2, w.others, (λ j. w.front j ++ prune k os r (w.rest j)) ∙ turn ∙ c.loop-hand.invariant.4)
+    let turn = idle_turn k os (chain c.loop-hand.table u.list) u.place c.in-Some-look.hand c.look-older.result r (sym c.in-Some-look.ensures) (next_of c.loop-hand.table u c.step-next.result c.look-older.result c.step-next.ensures.list c.step-next.ensures.place c.look-older.ensures) back (sym c.apart.ensures ∙ c.if-apart.true) c.undo-back.ensures (sym (decided k c.same.result r back c.same.ensures) ∙ c.if-same.true) in
+    (i.0, c.cut.ensures.stands, c.cut.ensures.cut.room ∙ i.2, w.others, (λ j. w.front j ++ prune k os r (w.rest j)) ∙ turn ∙ i.4)
 
 pub loop-hand-smaller-else-same : goal.loop-hand-smaller-else-same
 loop-hand-smaller-else-same g c =
-    let t = c.loop-hand.table in
-    let h = inside t c.args.r c.loop-hand.k c.in-Some-look.hand c.in-Some-look.ensures in
-    omega (arith, h, length-drop c.loop-hand.k (get_or (chains t) c.args.r []), length-drop (c.loop-hand.k + 1) (get_or (chains t) c.args.r []), chain_len t c.args.r)
+    let u = c.loop-hand.here in
+    let T = c.loop-hand.table in
+    let m = c.step-next.ensures in
+    let e : length (drop c.step-next.result.place (chain T c.step-next.result.list)) ≡ length (drop (u.place + 1) (chain T u.list)) = λ j. length (drop (m.place j) (chain T (m.list j))) in
+    omega (arith, e, inside T u c.in-Some-look.hand c.in-Some-look.ensures, length-drop u.place (chain T u.list), length-drop (u.place + 1) (chain T u.list))
 
 pub loop-hand-preserved-else-same : goal.loop-hand-preserved-else-same
 loop-hand-preserved-else-same g c =
     let k = g.K.Kind.ops in
     let os = opens (g.R.Registry.leases c.args.registry.now) in
-    let L = get_or (slots c.loop-hand.table.links) c.args.r [] in
-    let C = get_or (chains c.loop-hand.table) c.args.r [] in
+    let u = c.loop-hand.here in
+    let i = c.loop-hand.invariant in
+    let m = c.step-next.ensures in
+    let T = c.loop-hand.table in
+    let T₀ = c.args.table.now in
+    let s = c.args.start in
     let r = c.loop-hand.reached in
     let back = c.undo-back.result in
-    let turn = kept_turn k os C c.loop-hand.k c.in-Some-look.hand c.look-older.result r (sym c.in-Some-look.ensures) c.look-older.ensures back (sym c.apart.ensures ∙ c.if-apart.true) c.undo-back.ensures (sym (decided k c.same.result r back c.same.ensures) ∙ c.if-same.false) in
-    (c.loop-hand.invariant.1 ∙ ap (before L) (sym (add-one c.loop-hand.k)), c.follow-next.ensures, c.loop-hand.invariant.2, c.loop-hand.invariant.3, turn ∙ c.loop-hand.invariant.4)
+    let turn = kept_turn k os (chain T u.list) u.place c.in-Some-look.hand c.look-older.result r (sym c.in-Some-look.ensures) (next_of c.loop-hand.table u c.step-next.result c.look-older.result c.step-next.ensures.list c.step-next.ensures.place c.look-older.ensures) back (sym c.apart.ensures ∙ c.if-apart.true) c.undo-back.ensures (sym (decided k c.same.result r back c.same.ensures) ∙ c.if-same.false) in
+    let P : ℕ → ℕ → Type 0 = λ x y.
+    (x ≡ s.list) × (chains T ≡ set (chains T₀) x (chain T x))
+    × (take y (chain T x) ++ prune k os back (drop y (chain T x)) ≡ take s.place (chain T₀ x) ++ prune k os c.args.row (drop s.place (chain T₀ x))) in
+    let w = subst (λ (x : ℕ). P x c.step-next.result.place) (sym m.list) (subst (λ (y : ℕ). P u.list y) (sym m.place) (i.0, i.3, turn ∙ i.4)) in
+    (w.0, m.stands, i.2, w.1, w.2)
 
 pub returns : goal.returns
 returns g c =
     let k = g.K.Kind.ops in
     let os = opens (g.R.Registry.leases c.args.registry.now) in
-    let C = get_or (chains c.loop-hand.table) c.args.r [] in
-    let h = slice_get_end C c.loop-hand.k (sym c.look.ensures ∙ c.in_default-look.is) in
-    let none : take c.loop-hand.k C ++ prune k os c.loop-hand.reached (drop c.loop-hand.k C) ≡ C =
-    ap (λ vs. take c.loop-hand.k C ++ prune k os c.loop-hand.reached vs) (drop_all c.loop-hand.k C h) ∙ append-nil (take c.loop-hand.k C) ∙ take_all c.loop-hand.k C h in
-    record { room = c.loop-hand.invariant.2; pruned = c.loop-hand.invariant.3 ∙ ap (set (chains c.args.table.now) c.args.r) (sym none ∙ c.loop-hand.invariant.4) }
+    let u = c.loop-hand.here in
+    let s = c.args.start in
+    let i = c.loop-hand.invariant in
+    let T₀ = c.args.table.now in
+    let C = chain c.loop-hand.table u.list in
+    let h = slice_get_end C u.place (sym c.look.ensures ∙ c.in_default-look.is) in
+    let none : take u.place C ++ prune k os c.loop-hand.reached (drop u.place C) ≡ C =
+    ap (λ vs. take u.place C ++ prune k os c.loop-hand.reached vs) (drop_all u.place C h) ∙ append-nil (take u.place C) ∙ take_all u.place C h in
+    subst (λ (x : ℕ). Sets T₀ x (take s.place (chain T₀ x) ++ prune k os c.args.row (drop s.place (chain T₀ x))) c.loop-hand.table) i.0
+    (record { room = i.2; lists = i.3 ∙ ap (set (chains T₀) u.list) (sym none ∙ i.4) })

@@ -33,9 +33,9 @@ invariant_of-self g c =
     let old = viewed (vec_items s.records) (chains s.table) in
     let latest : t ≡ s.clock = c.requires.latest in
     let b = there (finish_stored k w t) s i x c.requires.within c.index.ensures in
-    let v = write_view (finish_stored k w t) s i x y (stamped t L) c.stamp.new.table c.requires.within c.index.ensures c.stamp.ensures.stamped (finish_one k w t x L (sym c.eq.ensures ∙ c.if-eq.true) b) in
+    let v = write_view (finish_stored k w t) s i x y (stamped t L) c.stamp.new.table c.requires.within c.index.ensures c.stamp.ensures.lists (finish_one k w t x L (sym c.eq.ensures ∙ c.if-eq.true) b) in
     let falling = subst (λ z. all_fall z (viewed (set (vec_items s.records) i y) (chains c.stamp.new.table)) ≡ true) latest (ap (all_fall t) v ∙ all_changed t (finish_stored k w t) (finish_keeps k t w) old i (subst (λ z. all_fall z old ≡ true) (sym latest) s.falling)) in
-    record { sound = write_sound (finish_stored k w t) s i x y (stamped t L) c.stamp.new.table c.requires.within c.index.ensures c.stamp.ensures.stamped refl; falling = falling; few = ap (λ n. leb n 4096) (length-set (vec_items s.records) i _) ∙ s.few }
+    record { sound = write_sound (finish_stored k w t) s i x y (stamped t L) c.stamp.new.table c.requires.within c.index.ensures c.stamp.ensures.lists refl; falling = falling; few = ap (λ n. leb n 4096) (length-set (vec_items s.records) i _) ∙ s.few }
 
 pub returns-then-eq : goal.returns-then-eq
 unfolding view
@@ -48,7 +48,7 @@ returns-then-eq g c =
     let x = c.index.result.now in
     let L = get_or (chains s.table) i [] in
     let b = there (finish_stored k w t) s i x c.requires.within c.index.ensures in
-    let v = write_view (finish_stored k w t) s i x (record { row = x.row; last = t; holder = None }) (stamped t L) c.stamp.new.table c.requires.within c.index.ensures c.stamp.ensures.stamped (finish_one k w t x L (sym c.eq.ensures ∙ c.if-eq.true) b) in
+    let v = write_view (finish_stored k w t) s i x (record { row = x.row; last = t; holder = None }) (stamped t L) c.stamp.new.table c.requires.within c.index.ensures c.stamp.ensures.lists (finish_one k w t x L (sym c.eq.ensures ∙ c.if-eq.true) b) in
     λ j. record { clock = s.clock; room = c.stamp.ensures.room j; records = v j }
 
 pub returns-else-eq : goal.returns-else-eq

@@ -26,7 +26,7 @@ invariant_of-self g c =
     let x = c.index.result.now in
     let L = get_or (chains s.table) i [] in
     let b = there (free_stored k w) s i x c.requires c.index.ensures in
-    let v = write_view (free_stored k w) s i x (record { row = c.take_back-row.result; last = x.last; holder = None }) (drop 1 L) c.take_back-row.new.table c.requires c.index.ensures c.take_back-row.ensures.taken (ap (λ q. stored (record { row = q; last = x.last; holder = None }) (drop 1 L)) c.take_back-row.ensures.row ∙ free_one k w x L (sym c.eq.ensures ∙ c.if-eq.true) b) in record { sound = write_sound (free_stored k w) s i x (record { row = c.take_back-row.result; last = x.last; holder = None }) (drop 1 L) c.take_back-row.new.table c.requires c.index.ensures c.take_back-row.ensures.taken refl; falling = ap (all_fall s.clock) v ∙ all_changed s.clock (free_stored k w) (free_keeps k s.clock w) (viewed (vec_items s.records) (chains s.table)) i s.falling; few = ap (λ n. leb n 4096) (length-set (vec_items s.records) i _) ∙ s.few }
+    let v = write_view (free_stored k w) s i x (record { row = c.take_back-row.result; last = x.last; holder = None }) (drop 1 L) c.take_back-row.new.table c.requires c.index.ensures c.take_back-row.ensures.taken.lists (ap (λ q. stored (record { row = q; last = x.last; holder = None }) (drop 1 L)) c.take_back-row.ensures.row ∙ free_one k w x L (sym c.eq.ensures ∙ c.if-eq.true) b) in record { sound = write_sound (free_stored k w) s i x (record { row = c.take_back-row.result; last = x.last; holder = None }) (drop 1 L) c.take_back-row.new.table c.requires c.index.ensures c.take_back-row.ensures.taken.lists refl; falling = ap (all_fall s.clock) v ∙ all_changed s.clock (free_stored k w) (free_keeps k s.clock w) (viewed (vec_items s.records) (chains s.table)) i s.falling; few = ap (λ n. leb n 4096) (length-set (vec_items s.records) i _) ∙ s.few }
 
 pub returns-then-eq : goal.returns-then-eq
 unfolding view
@@ -38,8 +38,8 @@ returns-then-eq g c =
     let x = c.index.result.now in
     let L = get_or (chains s.table) i [] in
     let b = there (free_stored k w) s i x c.requires c.index.ensures in
-    let v = write_view (free_stored k w) s i x (record { row = c.take_back-row.result; last = x.last; holder = None }) (drop 1 L) c.take_back-row.new.table c.requires c.index.ensures c.take_back-row.ensures.taken (ap (λ q. stored (record { row = q; last = x.last; holder = None }) (drop 1 L)) c.take_back-row.ensures.row ∙ free_one k w x L (sym c.eq.ensures ∙ c.if-eq.true) b) in
-    λ j. record { clock = s.clock; room = c.take_back-row.ensures.room j; records = v j }
+    let v = write_view (free_stored k w) s i x (record { row = c.take_back-row.result; last = x.last; holder = None }) (drop 1 L) c.take_back-row.new.table c.requires c.index.ensures c.take_back-row.ensures.taken.lists (ap (λ q. stored (record { row = q; last = x.last; holder = None }) (drop 1 L)) c.take_back-row.ensures.row ∙ free_one k w x L (sym c.eq.ensures ∙ c.if-eq.true) b) in
+    λ j. record { clock = s.clock; room = c.take_back-row.ensures.taken.room j; records = v j }
 
 pub returns-else-eq : goal.returns-else-eq
 returns-else-eq g c =

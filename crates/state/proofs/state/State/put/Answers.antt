@@ -32,8 +32,8 @@ invariant_of-self g c =
     let w = c.args.w in
     let x = c.index-entry.result.now in
     let o = own_none w i x.holder x.last (full_up k s) (sym (own_is k s i w x c.requires.within c.index-entry.ensures) ∙ c.requires.owned) in
-    let v = put_view k w c.args.edit s i x c.stack.new.table c.edit-row.result (in_records s i c.requires.within) c.index-entry.ensures c.edit-row.ensures o.0 c.stack.ensures.stacked in
-    record { sound = put_sound k w c.args.edit s i x c.stack.new.table c.edit-row.result (in_records s i c.requires.within) c.index-entry.ensures c.edit-row.ensures o.0 c.stack.ensures.stacked; falling = ap (all_fall s.clock) v ∙ all_changed s.clock (change_stored k w c.args.edit) (change_keeps k s.clock w c.args.edit) (viewed (vec_items s.records) (chains s.table)) i s.falling; few = ap (λ n. leb n 4096) (length-set (vec_items s.records) i _) ∙ s.few }
+    let v = put_view k w c.args.edit s i x c.stack.new.table c.edit-row.result (in_records s i c.requires.within) c.index-entry.ensures c.edit-row.ensures o.0 c.stack.ensures.lists in
+    record { sound = put_sound k w c.args.edit s i x c.stack.new.table c.edit-row.result (in_records s i c.requires.within) c.index-entry.ensures c.edit-row.ensures o.0 c.stack.ensures.lists; falling = ap (all_fall s.clock) v ∙ all_changed s.clock (change_stored k w c.args.edit) (change_keeps k s.clock w c.args.edit) (viewed (vec_items s.records) (chains s.table)) i s.falling; few = ap (λ n. leb n 4096) (length-set (vec_items s.records) i _) ∙ s.few }
 
 pub returns : goal.returns
 unfolding view
@@ -44,5 +44,5 @@ returns g c =
     let w = c.args.w in
     let x = c.index-entry.result.now in
     let o = own_none w i x.holder x.last (full_up k s) (sym (own_is k s i w x c.requires.within c.index-entry.ensures) ∙ c.requires.owned) in
-    let v = put_view k w c.args.edit s i x c.stack.new.table c.edit-row.result (in_records s i c.requires.within) c.index-entry.ensures c.edit-row.ensures o.0 c.stack.ensures.stacked in
+    let v = put_view k w c.args.edit s i x c.stack.new.table c.edit-row.result (in_records s i c.requires.within) c.index-entry.ensures c.edit-row.ensures o.0 c.stack.ensures.lists in
     λ j. record { clock = s.clock; room = c.stack.ensures.room j; records = v j }

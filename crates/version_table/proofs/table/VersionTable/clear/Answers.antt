@@ -11,6 +11,6 @@ returns g c =
     let vs = c.args.self.now.versions.items in
     let ls = slots c.args.self.now.links in
     record {
-      room = c.clear.ensures.size;
-      cleared = ap (map (pick vs)) c.clear.ensures.cleared ∙ map-set (pick vs) ls c.args.r [] ∙ ap (λ y. set (map (pick vs) ls) c.args.r y) (pick-nil vs);
+      room = c.clear.ensures.sized;
+      lists = ap (map (pick vs)) c.clear.ensures.lists ∙ map-set (pick vs) ls c.args.r [] ∙ ap (λ y. set (map (pick vs) ls) c.args.r y) (pick-nil vs);
     }

@@ -1,30 +1,31 @@
-use Rattle.std.proofs.Common.{◌+◌, [], get_or, drop, set, sym, refl, ap, ◌∙◌, arith}
-use Rattle.std.proofs.lemmas.List.{set-get_or}
-use Rattle.links.proofs.Places.{slice_get_inside}
-use Rattle.version_table.specs.Chains.{chains}
-use Rattle.version_table.proofs.Turns.{After, left, ended, fewer}
+use Rattle.std.proofs.Common.{◌+◌, drop, set, sym, ap, ◌∙◌, arith}
+use Rattle.std.proofs.lemmas.List.{take_all}
+use Rattle.version_table.specs.Chains.{chains, chain}
+use Rattle.version_table.proofs.Cursors.{slot_inside, slots_end}
+use Rattle.version_table.proofs.Turns.{After, left, fewer}
 use Rattle.version_table.proofs.table.VersionTable.drop_from.Given as given
 use Rattle.version_table.proofs.table.VersionTable.drop_from.Goals as goal
 
-pub loop-at-init : goal.loop-at-init
-loop-at-init g c = (c.requires.before, c.requires.start, refl, sym (set-get_or (chains c.args.self.now) c.args.r []), refl)
+pub cut-requires-clause-inside : goal.cut-requires-clause-inside
+cut-requires-clause-inside g c = slot_inside c.loop-slot.self c.args.cursor.list c.args.cursor.place c.in-Some._slot c.in-Some.ensures
 
-pub cut-requires : goal.cut-requires
-cut-requires g c = record { inside = slice_get_inside _ c.args.k c.in-Some._slot (sym c.loop-at.invariant.1 ∙ c.in-Some.is); before = c.loop-at.invariant.0 }
+-- the chain once the place has left
+turn : (g : given.Over) (c : goal.After-cut g) → After c.loop-slot.self c.cut.new.self (chains c.args.self.now) c.args.cursor.list c.args.cursor.place (drop (c.args.cursor.place + 1) (chain c.loop-slot.self c.args.cursor.list))
+turn g c = left _ _ _ _ _ _ (slot_inside c.loop-slot.self c.args.cursor.list c.args.cursor.place c.in-Some._slot c.in-Some.ensures) c.loop-slot.invariant.2 c.cut.ensures.cut
 
--- the cursor and the chain once the place has left
-turn : (g : given.Over) (c : goal.After-cut g) → After c.loop-at.self c.cut.new.self (chains c.args.self.now) c.args.r c.args.k c.args.link c.follow-next.result (drop (c.args.k + 1) (get_or (chains c.loop-at.self) c.args.r []))
-turn g c =
-    left c.loop-at.self c.cut.new.self (chains c.args.self.now) c.args.r c.args.k c.args.link c.follow-next.result (drop (c.args.k + 1) (get_or (chains c.loop-at.self) c.args.r []))
-    (slice_get_inside _ c.args.k c.in-Some._slot (sym c.loop-at.invariant.1 ∙ c.in-Some.is)) c.loop-at.invariant.0 c.follow-next.ensures c.loop-at.invariant.3 c.cut.ensures.links c.cut.ensures.cut
+pub loop-slot-smaller : goal.loop-slot-smaller
+loop-slot-smaller g c =
+    let r = c.args.cursor.list in
+    let k = c.args.cursor.place in
+    fewer (chain c.loop-slot.self r) (chain c.cut.new.self r) k _ (slot_inside c.loop-slot.self r k c.in-Some._slot c.in-Some.ensures) (turn g c).rest (omega arith)
 
-pub loop-at-smaller : goal.loop-at-smaller
-loop-at-smaller g c = fewer c.loop-at.self c.cut.new.self c.args.r c.args.k _ (slice_get_inside _ c.args.k c.in-Some._slot (sym c.loop-at.invariant.1 ∙ c.in-Some.is)) (turn g c).rest (omega arith)
-
-pub loop-at-preserved : goal.loop-at-preserved
-loop-at-preserved g c = let w = turn g c in (w.behind, w.here, c.cut.ensures.room ∙ c.loop-at.invariant.2, w.others, w.front ∙ c.loop-at.invariant.4)
+pub loop-slot-preserved : goal.loop-slot-preserved
+loop-slot-preserved g c = let w = turn g c in let i = c.loop-slot.invariant in (c.cut.ensures.stands, c.cut.ensures.cut.room ∙ i.1, w.others, w.front ∙ i.3)
 
 pub returns : goal.returns
 returns g c =
-    let e = ended c.loop-at.self (chains c.args.self.now) c.args.r c.args.k c.loop-at.at c.loop-at.invariant.1 c.in_default.is in
-    record { room = c.loop-at.invariant.2; dropped = c.loop-at.invariant.3 ∙ ap (set (chains c.args.self.now) c.args.r) (sym e.0 ∙ c.loop-at.invariant.4) }
+    let r = c.args.cursor.list in
+    let k = c.args.cursor.place in
+    let i = c.loop-slot.invariant in
+    let all = take_all k (chain c.loop-slot.self r) (slots_end c.loop-slot.self r k c.in_default.ensures) in
+    record { room = i.1; lists = i.2 ∙ ap (set (chains c.args.self.now) r) (sym all ∙ i.3) }

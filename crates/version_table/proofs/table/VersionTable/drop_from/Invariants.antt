@@ -1,15 +1,14 @@
-use Rattle.std.proofs.Common.{◌≡◌, [], length, get_or, take, drop, set}
-use Rattle.std.specs.List.{slice_get}
-use Rattle.links.specs.Meaning.{slots, before}
-use Rattle.version_table.specs.Chains.{chains, capacity}
+use Rattle.std.proofs.Common.{◌≡◌, length, take, drop, set}
+use Rattle.links.specs.Meaning.{Stands}
+use Rattle.version_table.specs.Chains.{chains, chain, capacity}
 use Rattle.version_table.proofs.table.VersionTable.drop_from.Given as goal
 
--- the cursor stands at the place k, and the versions before it are as they were
-abbrev pub invariant-loop-at : goal.invariant-loop-at
-invariant-loop-at g l =
-    let L = get_or (slots l.self.links) l.r [] in
-    let C = get_or (chains l.self) l.r [] in
-    (l.link ≡ before L l.k) × (l.at ≡ slice_get L l.k) × (capacity l.self ≡ capacity l.initial.self) × (chains l.self ≡ set (chains l.initial.self) l.r C) × (take l.k C ≡ take l.k (get_or (chains l.initial.self) l.r []))
+-- the cursor stands where it stood, and the versions before it are as they were
+abbrev pub invariant-loop-slot : goal.invariant-loop-slot
+invariant-loop-slot g l =
+    let r = l.cursor.list in
+    let k = l.cursor.place in
+    Stands l.self.links l.cursor × (capacity l.self ≡ capacity l.initial.self) × (chains l.self ≡ set (chains l.initial.self) r (chain l.self r)) × (take k (chain l.self r) ≡ take k (chain l.initial.self r))
 
-abbrev pub decreases-loop-at : goal.decreases-loop-at
-decreases-loop-at g l = length (drop l.k (get_or (chains l.self) l.r []))
+abbrev pub decreases-loop-slot : goal.decreases-loop-slot
+decreases-loop-slot g l = length (drop l.cursor.place (chain l.self l.cursor.list))

@@ -1,7 +1,8 @@
 use Rattle.std.proofs.Common.{map, length, sum_by, ap, arith}
 use Rattle.links.specs.Meaning.{slots, size}
 use Rattle.version_table.specs.Chains.{chains, capacity, pick}
-use Rattle.version_table.proofs.Picks.{chains_sum, chains-rows, pushed, inside_versions, sum_more, slots_le, push_refused, push_done}
+use Rattle.links.proofs.Places.{slots_le}
+use Rattle.version_table.proofs.Picks.{chains_sum, chains-rows, pushed, inside_versions, sum_more, push_refused, push_done}
 use Rattle.version_table.proofs.table.VersionTable.push.Goals as goal
 
 pub returns-in-None : goal.returns-in-None
