@@ -2,10 +2,13 @@
 #![tactic(auto)]
 
 ghost use Rattle.std.specs.Prelude.{◌≡◌};
+ghost use Rattle.kind.specs.Tables.{table};
+ghost use Rattle.fields.specs.Masks.{either_at};
 ghost use Rattle.fields.specs.Fields.{fields_ops, fields_tells, patch};
 ghost use Rattle.fields.specs.Laws.{fields_laws};
 
 use kind::Kind;
+use std::array;
 
 pub const ATTRIBUTES: usize = 8;
 
@@ -16,7 +19,7 @@ pub struct Attributes {
 }
 
 // Values for the attributes whose bit in the mask is set: an edit, which may hold anything elsewhere, or a change, with zeros there.
-#[derive(Clone, Copy)]
+#[derive(Clone, Copy, Default, PartialEq, Eq, Debug)]
 pub struct Patch {
     pub mask: u8,
     pub values: [u32; ATTRIBUTES],
@@ -37,74 +40,58 @@ impl Kind for Fields {
     ghost laws = { fields_laws };
 
     fn blank() -> Attributes {
-        let values = [0; ATTRIBUTES];
-        Attributes { values }
+        Attributes::default()
     }
 
     fn edit(row: Attributes, edit: Patch) -> (Attributes, Patch) {
-        let mut edited = row.values;
-        let mut before = [0; ATTRIBUTES];
-        for i in 0..ATTRIBUTES {
-            if edit.mask >> i & 1 == 1 {
-                edited[i] = edit.values[i];
-                before[i] = row.values[i];
-            }
-        }
         (
-            Attributes { values: edited },
+            Attributes {
+                values: either(edit.mask, edit.values, row.values),
+            },
             Patch {
                 mask: edit.mask,
-                values: before,
+                values: either(edit.mask, row.values, [0; ATTRIBUTES]),
             },
         )
     }
 
     fn undo(row: Attributes, change: Patch) -> Attributes {
-        let mut values = row.values;
-        for i in 0..ATTRIBUTES {
-            if change.mask >> i & 1 == 1 {
-                values[i] = change.values[i];
-            }
+        Attributes {
+            values: either(change.mask, change.values, row.values),
         }
-        Attributes { values }
     }
 
     fn join(newer: Patch, older: Patch) -> Patch {
-        let mut values = [0; ATTRIBUTES];
-        for i in 0..ATTRIBUTES {
-            if older.mask >> i & 1 == 1 {
-                values[i] = older.values[i];
-            } else if newer.mask >> i & 1 == 1 {
-                values[i] = newer.values[i];
-            }
-        }
+        let of_newer = either(newer.mask, newer.values, [0; ATTRIBUTES]);
         Patch {
             mask: newer.mask | older.mask,
-            values,
+            values: either(older.mask, older.values, of_newer),
         }
     }
 
     fn no_change() -> Patch {
-        Patch {
-            mask: 0,
-            values: [0; ATTRIBUTES],
-        }
+        Patch::default()
     }
 
     fn same(a: Attributes, b: Attributes) -> bool {
-        for k in 0..ATTRIBUTES {
-            if a.values[k] != b.values[k] {
-                return false;
-            }
-        }
-        true
+        numbers(a) == numbers(b)
     }
+}
+
+// At each attribute the value inside where the mask has its bit, else the one outside.
+fn either(mask: u8, inside: [u32; ATTRIBUTES], outside: [u32; ATTRIBUTES]) -> [u32; ATTRIBUTES]
+    ensures { result ≡ table 8 (either_at mask inside outside) }
+{
+    array::from_fn(|i| if mask >> i & 1 == 1 {
+        inside[i]
+    } else {
+        outside[i]
+    })
 }
 
 // The eight numbers that a row tells.
 pub fn numbers(row: Attributes) -> [u32; ATTRIBUTES]
     ensures { result ≡ fields_tells row }
 {
-    let told = row.values;
-    told
+    row.values
 }

@@ -1,3 +1,5 @@
+pub mod Arrays
+pub mod Folds
 pub mod Joins
 pub mod Tables
 pub mod Telling

@@ -1,5 +1,5 @@
 -- A list is pinned by its length and its places.
-use Rattle.std.proofs.Common.{◌≡◌, ℕ, zero, suc, ◌+◌, ◌<◌, ◌≤◌, ◌≢◌, List, [], ◌∷◌, length, get_or, set, sym, refl, ap, ◌∙◌, arith, length-set, get_or-set_other, get_or-set_same, below_more}
+use Rattle.std.proofs.Common.{◌≡◌, ℕ, zero, suc, ◌+◌, ◌<◌, List, [], ◌∷◌, length, get_or, refl, ap, ◌∙◌, arith}
 use Rattle.kind.specs.Tables.{table, table_from}
 
 from_places : (n i : ℕ) (xs : List ℕ) (f : ℕ → ℕ) → length xs ≡ n → ((k : ℕ) → k < n → get_or xs k 0 ≡ f (i + k)) → xs ≡ table_from i n f
@@ -15,20 +15,6 @@ from_places (suc n) i (x ∷ xs) f e h =
 pub is_table : (n : ℕ) (xs : List ℕ) (f : ℕ → ℕ) → length xs ≡ n → ((k : ℕ) → k < n → get_or xs k 0 ≡ f k) → xs ≡ table n f
 is_table n xs f e h = from_places n 0 xs f e (λ k l. h k l ∙ ap f (let z : k ≡ 0 + k = omega arith in z))
 
-from_at : (n i : ℕ) (f : ℕ → ℕ) (k : ℕ) → k < n → get_or (table_from i n f) k 0 ≡ f (i + k)
-from_at zero i f k h = absurd (let z : ⊥ = omega arith in z)
-from_at (suc n) i f zero h = ap f (let z : i ≡ i + 0 = omega arith in z)
-from_at (suc n) i f (suc k) h = from_at n (i + 1) f k (omega arith) ∙ ap f (let z : (i + 1) + k ≡ i + suc k = omega arith in z)
-
-pub table_at : (n : ℕ) (f : ℕ → ℕ) (k : ℕ) → k < n → get_or (table n f) k 0 ≡ f k
-table_at n f k h = from_at n 0 f k h ∙ ap f (let z : 0 + k ≡ k = omega arith in z)
-
--- a table of zeros has zero at every place, and past its end
-pub zeros_at : (i n k : ℕ) → get_or (table_from i n (λ _. 0)) k 0 ≡ 0
-zeros_at i zero k = refl
-zeros_at i (suc n) zero = refl
-zeros_at i (suc n) (suc k) = zeros_at (i + 1) n k
-
 -- equal at each place
 pub tables_alike : (i n : ℕ) (f g : ℕ → ℕ) → ((k : ℕ) → f k ≡ g k) → table_from i n f ≡ table_from i n g
 tables_alike i zero f g h = refl
@@ -43,27 +29,3 @@ tables_paired i (suc n) f g F G h e =
     let one = h i here in
     let more = tables_paired (i + 1) n f g F G h rest in
     cc
-
--- a list of n places that is being filled in rising order: F below i, and what it was from i on
-pub record Filling (n : ℕ) (F old : ℕ → ℕ) (xs : List ℕ) (i : ℕ) : Type 0 where
-  pub size : length xs ≡ n
-  pub done : (k : ℕ) → k < i → get_or xs k 0 ≡ F k
-  pub left : (k : ℕ) → i ≤ k → get_or xs k 0 ≡ old k
-
-module _ {n : ℕ} {F old : ℕ → ℕ} {xs : List ℕ} {i : ℕ} (f : Filling n F old xs i) where
-  -- the place i is written
-  pub filling_put : (x : ℕ) → i < n → F i ≡ x → Filling n F old (set xs i x) (i + 1)
-  filling_put x within e = record {
-    size = rw length-set f.size;
-    done = below_more _ _
-        (λ k h. let ne : k ≢ i = omega arith in rw get_or-set_other (f.done k h))
-        (let lt : i < length xs = omega (arith, f.size) in rw get_or-set_same (sym e));
-    left = λ k h. let ne : k ≢ i = omega arith in rw get_or-set_other (f.left k (omega arith));
-  }
-
-  -- the place i stays
-  pub filling_keep : F i ≡ old i → Filling n F old xs (i + 1)
-  filling_keep e = record { size = f.size; done = below_more _ _ f.done (f.left i (omega arith) ∙ sym e); left = λ k h. f.left k (omega arith) }
-
-  pub filled : n ≤ i → xs ≡ table n F
-  filled all = is_table n xs F f.size (λ k h. f.done k (omega arith))

@@ -15,20 +15,17 @@ pub fn there_and_back<K: Kind>(row: K::Row, edit: K::Edit) -> K::Row
 pub fn undo_each<K: Kind>(row: K::Row, changes: &[K::Change]) -> K::Row
     ensures { result ≡ undo_all K.ops row changes.now }
 {
-    let mut reached = row;
-    for change in changes {
-        reached = K::undo(reached, *change);
-    }
-    reached
+    changes
+        .iter()
+        .fold(row, |reached, change| K::undo(reached, *change))
 }
 
 // Joins the changes, newest first, and undoes the join at once: the row tells what undoing them one by one does.
 pub fn undo_joined<K: Kind>(row: K::Row, changes: &[K::Change]) -> K::Row
     ensures { K.ops.tells result ≡ K.ops.tells (undo_all K.ops row changes.now) }
 {
-    let mut whole = K::no_change();
-    for change in changes {
-        whole = K::join(whole, *change);
-    }
+    let whole = changes
+        .iter()
+        .fold(K::no_change(), |newer, older| K::join(newer, *older));
     K::undo(row, whole)
 }

@@ -1,6 +1,5 @@
 use fields::{Attributes, Fields, Patch, numbers};
 use kind::Kind;
-use std::process::Abort;
 
 const TOP: u32 = 4294967295;
 
@@ -12,16 +11,11 @@ fn patch(mask: u8, values: [u32; 8]) -> Patch {
     Patch { mask, values }
 }
 
-fn check_patch(rt: &impl Abort, p: Patch, mask: u8, values: [u32; 8]) {
-    assert_eq!(rt; p.mask, mask);
-    assert_eq!(rt; p.values, values);
-}
-
 #[test]
 fn mask_0_changes_nothing(rt: HostRuntime) {
     let (after, change) = Fields::edit(row([1, 2, 3, 4, 5, 6, 7, 8]), patch(0, [9; 8]));
     assert_eq!(rt; numbers(after), [1, 2, 3, 4, 5, 6, 7, 8]);
-    check_patch(&rt, change, 0, [0; 8]);
+    assert_eq!(rt; change, patch(0, [0; 8]));
     assert_eq!(rt;
         numbers(Fields::undo(after, change)),
         [1, 2, 3, 4, 5, 6, 7, 8]
@@ -35,7 +29,7 @@ fn mask_255_sets_all(rt: HostRuntime) {
         patch(255, [TOP, 0, 30, 40, 50, 60, 70, TOP]),
     );
     assert_eq!(rt; numbers(after), [TOP, 0, 30, 40, 50, 60, 70, TOP]);
-    check_patch(&rt, change, 255, [1, 2, 3, 4, 5, 6, 7, 8]);
+    assert_eq!(rt; change, patch(255, [1, 2, 3, 4, 5, 6, 7, 8]));
     assert_eq!(rt;
         numbers(Fields::undo(after, change)),
         [1, 2, 3, 4, 5, 6, 7, 8]
@@ -50,7 +44,7 @@ fn the_outer_bits(rt: HostRuntime) {
         patch(129, [10, 20, 30, 40, 50, 60, 70, 80]),
     );
     assert_eq!(rt; numbers(after), [10, 2, 3, 4, 5, 6, 7, 80]);
-    check_patch(&rt, change, 129, [1, 0, 0, 0, 0, 0, 0, 8]);
+    assert_eq!(rt; change, patch(129, [1, 0, 0, 0, 0, 0, 0, 8]));
 }
 
 // Masks 8 (attribute 3) and 10 (attributes 1 and 3): where both have a value the older stands.
@@ -58,17 +52,13 @@ fn the_outer_bits(rt: HostRuntime) {
 fn overlapping_masks(rt: HostRuntime) {
     let newer = patch(8, [0, 0, 0, 8700, 0, 0, 0, 0]);
     let older = patch(10, [0, 7, 0, 8500, 0, 0, 0, 0]);
-    check_patch(
-        &rt,
+    assert_eq!(rt;
         Fields::join(newer, older),
-        10,
-        [0, 7, 0, 8500, 0, 0, 0, 0],
+        patch(10, [0, 7, 0, 8500, 0, 0, 0, 0])
     );
-    check_patch(
-        &rt,
+    assert_eq!(rt;
         Fields::join(older, newer),
-        10,
-        [0, 7, 0, 8700, 0, 0, 0, 0],
+        patch(10, [0, 7, 0, 8700, 0, 0, 0, 0])
     );
 }
 
@@ -76,22 +66,18 @@ fn overlapping_masks(rt: HostRuntime) {
 fn disjoint_masks(rt: HostRuntime) {
     let newer = patch(3, [1, 2, 0, 0, 0, 0, 0, 0]);
     let older = patch(192, [0, 0, 0, 0, 0, 0, 7, 8]);
-    check_patch(
-        &rt,
+    assert_eq!(rt;
         Fields::join(newer, older),
-        195,
-        [1, 2, 0, 0, 0, 0, 7, 8],
+        patch(195, [1, 2, 0, 0, 0, 0, 7, 8])
     );
 }
 
 // A value outside a join's masks does not come through, whatever a side holds there.
 #[test]
 fn outside_both_masks(rt: HostRuntime) {
-    check_patch(
-        &rt,
+    assert_eq!(rt;
         Fields::join(patch(1, [5; 8]), patch(2, [6; 8])),
-        3,
-        [5, 6, 0, 0, 0, 0, 0, 0],
+        patch(3, [5, 6, 0, 0, 0, 0, 0, 0])
     );
 }
 
@@ -100,17 +86,13 @@ fn joins_of_three_in_both_groupings(rt: HostRuntime) {
     let a = patch(7, [11, 12, 13, 0, 0, 0, 0, 0]);
     let b = patch(14, [0, 22, 23, 24, 0, 0, 0, 0]);
     let c = patch(28, [0, 0, 33, 34, 35, 0, 0, 0]);
-    check_patch(
-        &rt,
+    assert_eq!(rt;
         Fields::join(Fields::join(a, b), c),
-        31,
-        [11, 22, 33, 34, 35, 0, 0, 0],
+        patch(31, [11, 22, 33, 34, 35, 0, 0, 0])
     );
-    check_patch(
-        &rt,
+    assert_eq!(rt;
         Fields::join(a, Fields::join(b, c)),
-        31,
-        [11, 22, 33, 34, 35, 0, 0, 0],
+        patch(31, [11, 22, 33, 34, 35, 0, 0, 0])
     );
 }
 

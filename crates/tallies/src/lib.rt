@@ -1,16 +1,17 @@
 // Four counters modulo 2^64: the kind of a yard's loads and tonnage.
 #![tactic(auto)]
 
-ghost use Rattle.std.specs.Prelude.{◌≡◌};
-ghost use Rattle.tallies.specs.Tallies.{tallies_ops, tallies_tells, plus as tallies_plus, minus as tallies_minus};
+ghost use Rattle.std.specs.Prelude.{◌≡◌, ℕ, ◌<◌, slice_index};
+ghost use Rattle.tallies.specs.Tallies.{tallies_ops, tallies_tells};
 ghost use Rattle.tallies.specs.Laws.{tallies_laws};
 
 use kind::Kind;
+use std::array;
 
 pub const COUNTERS: usize = 4;
 
 // Four numbers: a row's counters, what an edit adds to them, or what a change takes off again.
-#[derive(Clone, Copy)]
+#[derive(Clone, Copy, Default, PartialEq, Eq, Debug)]
 pub struct Counts {
     pub values: [u64; COUNTERS],
 }
@@ -30,62 +31,43 @@ impl Kind for Tallies {
     ghost laws = { tallies_laws };
 
     fn blank() -> Counts {
-        let values = [0; COUNTERS];
-        Counts { values }
+        Counts::default()
     }
 
     fn edit(row: Counts, edit: Counts) -> (Counts, Counts) {
-        (plus(row, edit), edit)
+        (each(row, edit, |x, y| x.wrapping_add(y)), edit)
     }
 
     fn undo(row: Counts, change: Counts) -> Counts {
-        minus(row, change)
+        each(row, change, |x, y| x.wrapping_sub(y))
     }
 
     fn join(newer: Counts, older: Counts) -> Counts {
-        plus(newer, older)
+        each(newer, older, |x, y| x.wrapping_add(y))
     }
 
     fn no_change() -> Counts {
-        Counts {
-            values: [0; COUNTERS],
-        }
+        Self::blank()
     }
 
     fn same(a: Counts, b: Counts) -> bool {
-        for k in 0..COUNTERS {
-            if a.values[k] != b.values[k] {
-                return false;
-            }
-        }
-        true
+        numbers(a) == numbers(b)
     }
 }
 
-fn plus(x: Counts, y: Counts) -> Counts
-    ensures { result ≡ tallies_plus x y }
+// One operation at each counter of two rows.
+fn each<F: Fn(u64, u64) -> u64>(x: Counts, y: Counts, op: F) -> Counts
+    requires { F.IsAlwaysCallable op }
+    ensures { (i : ℕ) → i < 4 → F.post op (slice_index x.values i) (slice_index y.values i) (slice_index result.values i) }
 {
-    let mut values = x.values;
-    for i in 0..COUNTERS {
-        values[i] = values[i].wrapping_add(y.values[i]);
+    Counts {
+        values: array::from_fn(|i| op(x.values[i], y.values[i])),
     }
-    Counts { values }
-}
-
-fn minus(x: Counts, y: Counts) -> Counts
-    ensures { result ≡ tallies_minus x y }
-{
-    let mut values = x.values;
-    for i in 0..COUNTERS {
-        values[i] = values[i].wrapping_sub(y.values[i]);
-    }
-    Counts { values }
 }
 
 // The four numbers that a row tells.
 pub fn numbers(row: Counts) -> [u64; COUNTERS]
     ensures { result ≡ tallies_tells row }
 {
-    let values = row.values;
-    [values[0], values[1], values[2], values[3]]
+    row.values
 }

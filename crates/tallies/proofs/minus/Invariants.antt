@@ -1,7 +1,0 @@
-use lib.ListN.{get_or}
-use Rattle.kind.proofs.Tables.{Filling}
-use Rattle.tallies.specs.Tallies.{sub64}
-use Rattle.tallies.proofs.minus.Given as goal
-
-abbrev pub invariant-loop-i : goal.invariant-loop-i
-invariant-loop-i l = Filling 4 (λ k. sub64 (get_or l.initial.values k 0) (get_or l.y.values k 0)) (λ k. get_or l.initial.values k 0) l.values l.i
