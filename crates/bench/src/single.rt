@@ -78,6 +78,7 @@ impl<K: Subject, R: Registry + Drop> Drive<K, R> {
         call: Call<K::Edit>,
         places: usize,
     ) -> io::Result<Outcome<K::Row>> {
+        // The store writes into a given list and answers how much, since it allocates nothing.
         let mut list = [0; MOST];
         let given = places.min(MOST);
         let sort = Sort::from(call);

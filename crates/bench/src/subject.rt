@@ -24,10 +24,10 @@ impl Subject for Fields {
         let mask = match style {
             Style::Whole => 255,
             Style::Back | Style::One => 1 << from.below(8),
-            Style::Some => (from.below(256) & 255) as u8,
+            Style::Some => from.below(256) as u8,
         };
         let values = array::from_fn(|_i| match style {
-            Style::Back => (from.below(2) & 1) as u32,
+            Style::Back => from.below(2) as u32,
             _ => from.wide(),
         });
         Patch { mask, values }

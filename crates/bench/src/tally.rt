@@ -150,7 +150,7 @@ impl Tally {
 
     // Time that calls of a sort took.
     pub(crate) fn spend(&mut self, sort: Sort, time: Duration) {
-        let nanos = (time.as_nanos() & 0xffff_ffff_ffff_ffff) as u64;
+        let nanos = u64::try_from(time.as_nanos()).unwrap_or(u64::MAX);
         let count = &mut self.counts[sort as usize];
         count.nanos = count.nanos.wrapping_add(nanos);
     }
@@ -165,10 +165,10 @@ impl Tally {
         for (number, n) in self.refused.iter().enumerate().skip(1) {
             print!(rt; " {number}:{n}")?;
         }
-        let peak = self.peak;
-        let answers = self.answers;
-        let times = self.times;
-        println!(rt; "\npeak {peak}\nanswers {answers} times {times}")
+        println!(rt;
+            "\npeak {}\nanswers {} times {}",
+            self.peak, self.answers, self.times
+        )
     }
 
     // The times, one line for each sort of call that was made.
