@@ -117,8 +117,8 @@ impl<K: Subject, R: Registry + Drop> Drive<K, R> {
         if n == 0 {
             return 0;
         }
-        let at = self.from.below(n as u64);
-        self.reports[at as usize]
+        let at = self.from.place(n);
+        self.reports[at]
     }
 
     // Asks for so many changes by a writer, up to what a batch holds.

@@ -118,9 +118,9 @@ impl<K: Subject, R: Registry + Drop> Drive<K, R> {
         let drawn = self.from.below(plan.close);
         let n = self.reports.len();
         if n > 0 && (drawn == 0 || n >= REPORTS) {
-            let j = self.from.below(n as u64);
-            let k = self.from.below(n as u64);
-            let time = self.reports.remove(j.max(k) as usize);
+            let j = self.from.place(n);
+            let k = self.from.place(n);
+            let time = self.reports.remove(j.max(k));
             self.call(clock, Call::Close(time))?;
         }
         Ok(())

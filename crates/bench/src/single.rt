@@ -36,17 +36,17 @@ fn take_answer<K: Subject>(tally: &mut Tally, outcome: Outcome<K::Row>, written:
         Outcome::Shown(row) => K::take_row(tally, row),
         Outcome::Committed(clock, n) => {
             tally.take(u64::from(clock));
-            tally.take(n as u64);
+            tally.take_count(n);
         }
-        Outcome::Abandoned(n) => tally.take(n as u64),
+        Outcome::Abandoned(n) => tally.take_count(n),
         Outcome::Held(n) => {
-            tally.take(n as u64);
+            tally.take_count(n);
             for record in written {
                 tally.take(u64::from(*record));
             }
         }
         Outcome::Kept(n) => {
-            tally.take(n as u64);
+            tally.take_count(n);
             tally.take_times(written);
         }
         Outcome::InUse(n) => tally.used(n),

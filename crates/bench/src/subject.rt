@@ -42,9 +42,9 @@ impl Subject for Fields {
 
 // One of four counters, the others 0.
 fn one_counter(from: &mut Generator) -> [u64; 4] {
-    let c = from.below(4);
+    let c = from.place(4);
     let mut values = [0; 4];
-    values[c as usize] = from.draw();
+    values[c] = from.draw();
     values
 }
 

@@ -74,7 +74,7 @@ struct Count {
 pub(crate) struct Tally {
     counts: [Count; 11],
     refused: [u64; 11],
-    peak: u64,
+    peak: usize,
     answers: u64,
     times: u64,
 }
@@ -99,6 +99,11 @@ impl Tally {
         self.answers = mixed(self.answers, x);
     }
 
+    // Takes a count in. A cast, since std has no `From` of a `usize`.
+    pub(crate) fn take_count(&mut self, n: usize) {
+        self.take(n as u64);
+    }
+
     // Takes the times that a Kept wrote into their checksum.
     pub(crate) fn take_times(&mut self, times: &[u32]) {
         for time in times {
@@ -106,9 +111,14 @@ impl Tally {
         }
     }
 
+    // What was counted of a sort, which stands at the sort's number.
+    fn count_of(&mut self, sort: Sort) -> &mut Count {
+        &mut self.counts[sort as usize]
+    }
+
     // One more call of a sort.
     fn count(&mut self, sort: Sort) {
-        let count = &mut self.counts[sort as usize];
+        let count = self.count_of(sort);
         count.calls = count.calls.wrapping_add(1);
     }
 
@@ -144,14 +154,14 @@ impl Tally {
 
     // The answer of In use.
     pub(crate) fn used(&mut self, n: usize) {
-        self.take(n as u64);
-        self.peak = self.peak.max(n as u64);
+        self.take_count(n);
+        self.peak = self.peak.max(n);
     }
 
     // Time that calls of a sort took.
     pub(crate) fn spend(&mut self, sort: Sort, time: Duration) {
         let nanos = u64::try_from(time.as_nanos()).unwrap_or(u64::MAX);
-        let count = &mut self.counts[sort as usize];
+        let count = self.count_of(sort);
         count.nanos = count.nanos.wrapping_add(nanos);
     }
 
