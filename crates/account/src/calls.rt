@@ -4,6 +4,7 @@ ghost use Rattle.lease.specs.Times.{delete};
 ghost use Rattle.store.specs.View.{view};
 ghost use Rattle.account.specs.Calls.{change_each, made, refusal_of, ReadAt};
 
+use crate::refusals::Refusal;
 use history::fault::StoreFault;
 use kind::Kind;
 use lease::registry::Registry;
@@ -17,82 +18,106 @@ pub struct RecordEdit<E> {
     pub edit: E,
 }
 
-// Makes each change for a writer, up to the first that is refused.
-pub fn make_each<K: Kind, R: Registry>(
-    store: &mut Store<K>,
-    registry: &R,
-    writer: &Writer,
-    edits: &[RecordEdit<K::Edit>],
-) -> Result<(), StoreFault>
-    ensures { change_each K.ops (view store.old) (R.leases registry.now) writer.now.time edits.now ≡ made (refusal_of result) (view store.new) }
-{
-    for one in edits {
-        if let Err(fault) = store.change(registry, writer, one.record, one.edit) {
+impl<E: Copy> RecordEdit<E> {
+    pub(crate) fn of(number: u64, edit: E) -> RecordEdit<E>
+        ensures { result ≡ record { «record» = number; edit = edit } }
+    {
+        RecordEdit {
+            record: number,
+            edit,
+        }
+    }
+}
+
+// A store and the registry of its leases, which every call is made with.
+#[derive(Drop)]
+pub struct Book<K: Kind, R> {
+    pub store: Store<K>,
+    pub registry: R,
+}
+
+impl<K: Kind, R: Registry> Book<K, R> {
+    // Makes each change for a writer, up to the first that is refused.
+    pub fn make_each(
+        &mut self,
+        writer: &Writer,
+        edits: &[RecordEdit<K::Edit>],
+    ) -> Result<(), StoreFault>
+        ensures made { change_each K.ops (view self.old.store) (R.leases self.old.registry) writer.now.time edits.now ≡ made (refusal_of result) (view self.new.store) }
+        ensures registry { self.new.registry ≡ self.old.registry }
+    {
+        for one in edits {
+            self.store
+                .change(&self.registry, writer, one.record, one.edit)?;
+        }
+        Ok(())
+    }
+
+    // Commits a writer, or abandons it where that is refused: its lease is gone in any case.
+    pub fn commit_or_abandon(&mut self, writer: Writer) -> Result<(u32, usize), StoreFault>
+        ensures { R.leases self.new.registry ≡ delete writer.time (R.leases self.old.registry) }
+    {
+        match self.store.commit(&mut self.registry, writer) {
+            Ok(done) => Ok(done),
+            Err((fault, back)) => {
+                let _freed = self.store.abandon(&mut self.registry, back);
+                Err(fault)
+            }
+        }
+    }
+
+    // Changes several records by one writer: all of them, or none where one is refused. The open leases are then as they were.
+    pub fn change_all(&mut self, edits: &[RecordEdit<K::Edit>]) -> Result<(u32, usize), StoreFault>
+        ensures { R.leases self.new.registry ≡ R.leases self.old.registry }
+    {
+        let writer = self.store.begin(&mut self.registry)?;
+        if let Err(fault) = self.make_each(&writer, edits) {
+            let _freed = self.store.abandon(&mut self.registry, writer);
             return Err(fault);
         }
+        self.commit_or_abandon(writer)
     }
-    Ok(())
-}
 
-// Commits a writer, or abandons it where that is refused: its lease is gone in any case.
-pub fn commit_or_abandon<K: Kind, R: Registry>(
-    store: &mut Store<K>,
-    registry: &mut R,
-    writer: Writer,
-) -> Result<(u32, usize), StoreFault>
-    ensures { R.leases registry.new ≡ delete writer.time (R.leases registry.old) }
-{
-    match store.commit(registry, writer) {
-        Ok(done) => Ok(done),
-        Err((fault, back)) => {
-            let _freed = store.abandon(registry, back);
-            Err(fault)
-        }
+    // The row that a report reads.
+    pub fn read_row(&self, lease: &Lease, record: u64) -> Result<K::Row, StoreFault>
+        ensures { ReadAt K.ops (view self.now.store) (R.leases self.now.registry) lease.now.time «record» result }
+    {
+        let mut row = K::blank();
+        self.store.read(&self.registry, lease, record, &mut row)?;
+        Ok(row)
     }
-}
 
-// Changes several records by one writer: all of them, or none where one is refused. The open leases are then as they were.
-pub fn change_all<K: Kind, R: Registry>(
-    store: &mut Store<K>,
-    registry: &mut R,
-    edits: &[RecordEdit<K::Edit>],
-) -> Result<(u32, usize), StoreFault>
-    ensures { R.leases registry.new ≡ R.leases registry.old }
-{
-    let writer = store.begin(registry)?;
-    if let Err(fault) = make_each::<K, R>(store, registry, &writer, edits) {
-        let _freed = store.abandon(registry, writer);
-        return Err(fault);
+    // Closes a report: whether that is refused or not, no lease is left that was the report's.
+    pub(crate) fn close(&mut self, lease: Lease) -> Result<(), StoreFault>
+        ensures { R.leases self.new.registry ≡ delete lease.time (R.leases self.old.registry) }
+    {
+        self.store.close(&mut self.registry, lease)
     }
-    commit_or_abandon::<K, R>(store, registry, writer)
-}
 
-// The row that a report reads.
-pub fn read_row<K: Kind, R: Registry>(
-    store: &Store<K>,
-    registry: &R,
-    lease: &Lease,
-    record: u64,
-) -> Result<K::Row, StoreFault>
-    ensures { ReadAt K.ops (view store.now) (R.leases registry.now) lease.now.time «record» result }
-{
-    let mut row = K::blank();
-    match store.read(registry, lease, record, &mut row) {
-        Ok(_) => Ok(row),
-        Err(fault) => Err(fault),
+    // The row that a report opened just now reads; the report is closed again.
+    pub fn read_now(&mut self, record: u64) -> Result<K::Row, StoreFault>
+        ensures { R.leases self.new.registry ≡ R.leases self.old.registry }
+    {
+        let lease = self.store.open(&mut self.registry)?;
+        let row = self.read_row(&lease, record);
+        self.close(lease)?;
+        row
     }
-}
 
-// The row that a report opened just now reads; the report is closed again.
-pub fn read_now<K: Kind, R: Registry>(
-    store: &mut Store<K>,
-    registry: &mut R,
-    record: u64,
-) -> Result<K::Row, StoreFault>
-    ensures { R.leases registry.new ≡ R.leases registry.old }
-{
-    let lease = store.open(registry)?;
-    let row = read_row::<K, R>(store, registry, &lease, record);
-    store.close(registry, lease)?;
-    row
+    // A record's row now, and as the report of this name reads it.
+    pub(crate) fn now_and_on(
+        &mut self,
+        name: &'static str,
+        report: &Lease,
+        record: u64,
+    ) -> Result<(K::Row, K::Row), Refusal>
+        ensures { R.leases self.new.registry ≡ R.leases self.old.registry }
+    {
+        let reported = self.read_row(report, record);
+        let newest = self.read_now(record);
+        Ok((
+            newest.map_err(|fault| Refusal::of("a new report", fault))?,
+            reported.map_err(|fault| Refusal::of(name, fault))?,
+        ))
+    }
 }

@@ -1,7 +1,7 @@
 use crate::edits::{empty_weight, weight};
-use crate::finishing::{differing, finish, row_at};
+use crate::finishing::Tracked;
 use chain::version::Version;
-use fields::{Attributes, Fields, Patch};
+use fields::Fields;
 use kind::Kind;
 use lease::registry::Registry;
 use lease::token::Lease;
@@ -14,26 +14,18 @@ use version_table::table::VersionTable;
 // The most versions of the truck.
 const ROOM: usize = 8;
 
-// A truck: its newest row, its versions, and the open reports.
-#[derive(Drop)]
-struct Truck {
-    row: Attributes,
-    table: VersionTable<Patch>,
-    registry: SlotTable,
-}
+type Truck = Tracked<Fields, SlotTable>;
 
-impl Truck {
-    fn weight_at(&self, time: u32) -> u32 {
-        empty_weight(row_at::<Fields>(&self.table, self.row, time))
-    }
+fn weight_at(truck: &Truck, time: u32) -> u32 {
+    empty_weight(truck.row_at(time))
 }
 
 // Each version by its time and what it undoes: the weight at its time, and the one just before.
 fn show_versions(rt: &impl Print, truck: &Truck) -> io::Result<()> {
     for version in truck.table.chain(0) {
         let time = version.time;
-        let from = truck.weight_at(time);
-        let back = truck.weight_at(time.saturating_sub(1));
+        let from = weight_at(truck, time);
+        let back = weight_at(truck, time.saturating_sub(1));
         println!(rt; "  version {time} leads from {from} back to {back} kg")?;
     }
     Ok(())
@@ -43,13 +35,14 @@ fn show_versions(rt: &impl Print, truck: &Truck) -> io::Result<()> {
 fn show_truck(rt: &impl Print, truck: &Truck, reports: &[u32]) -> io::Result<()> {
     show_versions(rt, truck)?;
     for time in reports {
-        let time = *time;
-        let kg = truck.weight_at(time);
+        let kg = weight_at(truck, *time);
         println!(rt; "  the report at {time} reads {kg} kg")?;
     }
-    let n = truck.table.len(0);
-    let points = differing::<Fields>(&truck.table, truck.row, reports);
-    println!(rt; "  versions kept: {n}, points at which the readings differ: {points}")
+    println!(rt;
+        "  versions kept: {}, points at which the readings differ: {}",
+        truck.table.len(0),
+        truck.differing(reports)
+    )
 }
 
 fn weigh(
@@ -59,26 +52,16 @@ fn weigh(
     kg: u32,
     reports: &[u32],
 ) -> io::Result<()> {
-    if !finish::<Fields, SlotTable>(
-        &mut truck.table,
-        &truck.registry,
-        &mut truck.row,
-        time,
-        weight(kg),
-    ) {
+    if !truck.finish(time, weight(kg)) {
         return println!(rt; "At {time} there is no room for a version.");
     }
-    let now = empty_weight(truck.row);
-    println!(rt; "At {time} it weighs {now} kg.")?;
+    println!(rt; "At {time} it weighs {} kg.", empty_weight(truck.row))?;
     show_truck(rt, truck, reports)
 }
 
 fn open_report(rt: &impl Print, truck: &mut Truck, time: u32) -> io::Result<()> {
     match Lease::open(&mut truck.registry, time) {
-        Ok(lease) => {
-            let at = lease.write_down();
-            println!(rt; "A report is opened at {at}.")
-        }
+        Ok(lease) => println!(rt; "A report is opened at {}.", lease.write_down()),
         Err(fault) => println!(rt; "A report is refused: {fault}."),
     }
 }
@@ -97,12 +80,10 @@ fn close_report(rt: &impl Print, truck: &mut Truck, time: u32, left: &[u32]) -> 
 }
 
 // Ten weights, one after the other, while the reports are open.
-fn ten_changes(rt: &impl Print, truck: &mut Truck, first: u32, reports: &[u32]) -> io::Result<()> {
+fn ten_changes(rt: &impl Print, truck: &mut Truck, reports: &[u32]) -> io::Result<()> {
     let weights = [8650, 8700, 8600, 8500, 8550, 8600, 8720, 8740, 8500, 8800];
-    let mut time = first;
-    for kg in weights {
+    for (time, kg) in (3..13).zip(weights) {
         weigh(rt, truck, time, kg, reports)?;
-        time = time.wrapping_add(1);
     }
     Ok(())
 }
@@ -116,17 +97,16 @@ pub fn one_truck(rt: &impl Print, heap: Global) -> io::Result<()> {
         time: 0,
         change: Fields::no_change(),
     };
-    let table = VersionTable::new(heap, 1, ROOM, blank)?;
     let mut truck = Truck {
         row: Fields::blank(),
-        table,
+        table: VersionTable::new(heap, 1, ROOM, blank)?,
         registry: SlotTable::empty(),
     };
     weigh(rt, &mut truck, 1, 8500, &[])?;
     open_report(rt, &mut truck, 1)?;
     weigh(rt, &mut truck, 2, 8600, &[1])?;
     open_report(rt, &mut truck, 2)?;
-    ten_changes(rt, &mut truck, 3, &[2, 1])?;
+    ten_changes(rt, &mut truck, &[2, 1])?;
     close_report(rt, &mut truck, 2, &[1])?;
     close_report(rt, &mut truck, 1, &[])
 }

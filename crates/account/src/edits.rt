@@ -1,16 +1,23 @@
 ghost use Rattle.std.specs.Prelude.{◌≡◌};
 ghost use Rattle.account.specs.Edits.{weight_set, axles_set, load_added, weight_told};
 
-use fields::{Attributes, Patch, numbers};
+use fields::{ATTRIBUTES, Attributes, Patch, numbers};
 use tallies::Counts;
+
+// The places of the attributes that the account speaks of.
+const AXLES: usize = 1;
+
+const EMPTY_WEIGHT: usize = 3;
 
 // Sets a truck's empty weight.
 pub fn weight(kg: u32) -> Patch
     ensures { result ≡ weight_set kg }
 {
+    let mut values = [0; ATTRIBUTES];
+    values[EMPTY_WEIGHT] = kg;
     Patch {
-        mask: 8,
-        values: [0, 0, 0, kg, 0, 0, 0, 0],
+        mask: 1 << EMPTY_WEIGHT,
+        values,
     }
 }
 
@@ -18,9 +25,12 @@ pub fn weight(kg: u32) -> Patch
 pub fn axles_and_weight(axles: u32, kg: u32) -> Patch
     ensures { result ≡ axles_set axles kg }
 {
+    let mut values = [0; ATTRIBUTES];
+    values[AXLES] = axles;
+    values[EMPTY_WEIGHT] = kg;
     Patch {
-        mask: 10,
-        values: [0, axles, 0, kg, 0, 0, 0, 0],
+        mask: 1 << AXLES | 1 << EMPTY_WEIGHT,
+        values,
     }
 }
 
@@ -37,6 +47,5 @@ pub fn load(loads: u64, kg: u64) -> Counts
 pub fn empty_weight(row: Attributes) -> u32
     ensures { result ≡ weight_told row }
 {
-    let told = numbers(row);
-    told[3]
+    numbers(row)[EMPTY_WEIGHT]
 }

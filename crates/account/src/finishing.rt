@@ -12,45 +12,50 @@ use version_table::prune::prune_chain;
 use version_table::table::VersionTable;
 use version_table::walk::lead_back;
 
-// Finishes an edit at a time: the new row stands in place, its before-image in front of the chain, which is pruned. False where there is no room.
-pub fn finish<K: Kind, R: Registry>(
-    table: &mut VersionTable<K::Change>,
-    registry: &R,
-    row: &mut K::Row,
-    time: u32,
-    edit: K::Edit,
-) -> bool
-    ensures row { row.new ≡ (if result then K.ops.edited row.old edit else row.old) }
-    ensures chain { chains table.new ≡ (if result then slice_set (chains table.old) 0 (finished K.ops (opens (R.leases registry.now)) row.old edit time (chain table.old 0)) else chains table.old) }
-{
-    let (edited, change) = K::edit(*row, edit);
-    if !table.push(0, Version { time, change }) {
-        return false;
-    }
-    *row = edited;
-    prune_chain::<K, R>(table, 0, registry, edited);
-    true
+// A record: its newest row, its versions, and the leases of those who read it.
+#[derive(Drop)]
+pub struct Tracked<K: Kind, R> {
+    pub row: K::Row,
+    pub table: VersionTable<K::Change>,
+    pub registry: R,
 }
 
-// The row at a time: the versions above it undone, where the times of the chain fall.
-pub fn row_at<K: Kind>(table: &VersionTable<K::Change>, row: K::Row, time: u32) -> K::Row
-    ensures { Falling (chain table.now 0) → result ≡ reads K.ops row (chain table.now 0) time }
-{
-    lead_back::<K>(table.chain(0), time, row)
-}
-
-// From the newest row down over the open times: how often the reading differs from the one before.
-pub fn differing<K: Kind>(table: &VersionTable<K::Change>, newest: K::Row, times: &[u32]) -> usize
-    ensures { Falling (chain table.now 0) → result ≡ points K.ops newest (chain table.now 0) newest times.now }
-{
-    let mut last = newest;
-    let mut n = 0;
-    for time in times {
-        let here = row_at::<K>(table, newest, *time);
-        if !K::same(last, here) {
-            n += 1;
+impl<K: Kind, R: Registry> Tracked<K, R> {
+    // Finishes an edit at a time: the new row stands in place, its before-image in front of the chain, which is pruned. False where there is no room.
+    pub fn finish(&mut self, time: u32, edit: K::Edit) -> bool
+        ensures row { self.new.row ≡ (if result then K.ops.edited self.old.row edit else self.old.row) }
+        ensures chain { chains self.new.table ≡ (if result then slice_set (chains self.old.table) 0 (finished K.ops (opens (R.leases self.old.registry)) self.old.row edit time (chain self.old.table 0)) else chains self.old.table) }
+        ensures registry { self.new.registry ≡ self.old.registry }
+    {
+        let (edited, change) = K::edit(self.row, edit);
+        if !self.table.push(0, Version { time, change }) {
+            return false;
         }
-        last = here;
+        self.row = edited;
+        prune_chain::<K, R>(&mut self.table, 0, &self.registry, edited);
+        true
     }
-    n
+
+    // The row at a time: the versions above it undone, where the times of the chain fall.
+    pub fn row_at(&self, time: u32) -> K::Row
+        ensures { Falling (chain self.now.table 0) → result ≡ reads K.ops self.now.row (chain self.now.table 0) time }
+    {
+        lead_back::<K>(self.table.chain(0), time, self.row)
+    }
+
+    // From the newest row down over the open times: how often the reading differs from the one before.
+    pub fn differing(&self, times: &[u32]) -> usize
+        ensures { Falling (chain self.now.table 0) → result ≡ points K.ops self.now.row (chain self.now.table 0) self.now.row times.now }
+    {
+        let mut last = self.row;
+        let mut n = 0;
+        for time in times {
+            let here = self.row_at(*time);
+            if !K::same(last, here) {
+                n += 1;
+            }
+            last = here;
+        }
+        n
+    }
 }

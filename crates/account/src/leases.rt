@@ -7,13 +7,7 @@ use std::io;
 
 // The rest of a line: the numbers at a time and in all, and the least open time.
 fn show_standing<R: Registry>(rt: &impl Print, registry: &R, time: u32) -> io::Result<()> {
-    let s = ask(registry, time);
-    let there = s.there;
-    let in_all = s.in_all;
-    match s.least {
-        Some(least) => println!(rt; ": {there} there, {in_all} in all, least open time {least}"),
-        None => println!(rt; ": {there} there, {in_all} in all, no time open"),
-    }
+    println!(rt; ": {}", ask(registry, time))
 }
 
 fn open_one<R: Registry>(rt: &impl Print, registry: &mut R, time: u32) -> io::Result<()> {

@@ -1,4 +1,7 @@
 // The hour of a statement, from the first weights to the buyer's question.
+ghost use Rattle.std.specs.Prelude.{◌≡◌};
+
+use crate::calls::Book;
 use crate::counters::manager;
 use crate::refusals::show_refusal;
 use crate::service::{buyer, engineer};
@@ -12,33 +15,41 @@ use std::io;
 use store::sizes::Sizes;
 use store::store::Store;
 
+// The trucks' weights.
+pub type Trucks = Book<Fields, SortedList>;
+
 // What happens while the statement is open.
 fn meanwhile(
     rt: &impl Print,
     heap: Global,
-    store: &mut Store<Fields>,
-    registry: &mut SortedList,
+    trucks: &mut Trucks,
     statement: &Lease,
-) -> io::Result<()> {
-    let time = statement.time();
-    println!(rt; "The accountant opens a statement at {time}, which stays open for an hour.")?;
-    corrections(rt, store, registry, statement)?;
-    whole_change(rt, store, registry, statement)?;
-    manager(rt, heap, registry.total(), store.in_use())?;
-    engineer(rt, store, registry)
+) -> io::Result<()>
+    ensures { ⟦<SortedList as Registry>⟧.leases trucks.new.registry ≡ ⟦<SortedList as Registry>⟧.leases trucks.old.registry }
+{
+    println!(rt;
+        "The accountant opens a statement at {}, which stays open for an hour.",
+        statement.time()
+    )?;
+    corrections(rt, trucks, statement)?;
+    whole_change(rt, trucks, statement)?;
+    manager(rt, heap, trucks)?;
+    engineer(rt, trucks)
 }
 
 // The hour over a store of these sizes.
 fn hour_of(rt: &impl Print, heap: Global, sizes: Sizes) -> io::Result<()> {
-    let mut store = Store::<Fields>::make(heap, sizes)?;
-    let mut registry = SortedList::empty();
-    first_weights(rt, &mut store, &mut registry)?;
-    let statement = match store.open(&mut registry) {
+    let mut trucks = Book {
+        store: Store::make(heap, sizes)?,
+        registry: SortedList::empty(),
+    };
+    first_weights(rt, &mut trucks)?;
+    let statement = match trucks.store.open(&mut trucks.registry) {
         Ok(statement) => statement,
         Err(fault) => return show_refusal(rt, "the statement", fault),
     };
-    let told = meanwhile(rt, heap, &mut store, &mut registry, &statement);
-    let asked = buyer(rt, &mut store, &mut registry, statement);
+    let told = meanwhile(rt, heap, &mut trucks, &statement);
+    let asked = buyer(rt, &mut trucks, statement);
     told?;
     asked
 }

@@ -1,24 +1,55 @@
+// What a store's refusals look like on a page.
 use history::fault::StoreFault;
-use std::io;
+use std::{fmt, io};
 
-// The rest of a line: why a store refused, by number, layer and place.
-pub fn show_fault(rt: &impl Print, fault: StoreFault) -> io::Result<()> {
-    let number = fault.number();
-    let layer = fault.layer();
-    let place = fault.place;
-    println!(rt; "refused, number {number}, layer {layer}, place {place}")
+// A store's refusal in words: its number, layer and place.
+#[derive(Clone, Copy)]
+pub(crate) struct Refused(pub(crate) StoreFault);
+
+impl fmt::Display for Refused {
+    fn fmt<W: fmt::Write>(&self, f: &mut fmt::Formatter<W>) -> fmt::Result {
+        let fault = self.0;
+        write!(
+            f,
+            "refused, number {}, layer {}, place {}",
+            fault.number(),
+            fault.layer(),
+            fault.place
+        )
+    }
 }
 
 // What was asked for, and why a store refused it.
-pub fn show_refusal(rt: &impl Print, what: &str, fault: StoreFault) -> io::Result<()> {
-    print!(rt; "  {what}: ")?;
-    show_fault(rt, fault)
+#[derive(Clone, Copy)]
+pub(crate) struct Refusal {
+    what: &'static str,
+    why: Refused,
+}
+
+impl Refusal {
+    pub(crate) fn of(what: &'static str, fault: StoreFault) -> Refusal {
+        Refusal {
+            what,
+            why: Refused(fault),
+        }
+    }
+}
+
+impl fmt::Display for Refusal {
+    fn fmt<W: fmt::Write>(&self, f: &mut fmt::Formatter<W>) -> fmt::Result {
+        write!(f, "{}: {}", self.what, self.why)
+    }
+}
+
+// A line that says what was asked for, and why a store refused it.
+pub fn show_refusal(rt: &impl Print, what: &'static str, fault: StoreFault) -> io::Result<()> {
+    println!(rt; "  {}", Refusal::of(what, fault))
 }
 
 // When a change was finished, and how many records it has; or why it was refused.
 pub fn show_finished(
     rt: &impl Print,
-    what: &str,
+    what: &'static str,
     done: Result<(u32, usize), StoreFault>,
 ) -> io::Result<()> {
     match done {

@@ -3,25 +3,37 @@ use crate::moments::{Moments, edit_twice, look_back};
 use fields::{Attributes, Fields, Patch, numbers};
 use kind::Kind;
 use kind::undoing::there_and_back;
-use std::io;
+use std::{fmt, io};
+
+// Numbers on a line, each behind a space.
+#[derive(Clone, Copy)]
+struct Spaced<'a>(&'a [u32]);
+
+impl fmt::Display for Spaced<'_> {
+    fn fmt<W: fmt::Write>(&self, f: &mut fmt::Formatter<W>) -> fmt::Result {
+        for number in self.0 {
+            write!(f, " {number}")?;
+        }
+        Ok(())
+    }
+}
 
 fn show_row(rt: &impl Print, what: &str, row: Attributes) -> io::Result<()> {
-    let [a, b, c, d, e, f, g, h] = numbers(row);
-    println!(rt; "  {what}: attributes {a} {b} {c} {d} {e} {f} {g} {h}")
+    println!(rt; "  {what}: attributes{}", Spaced(&numbers(row)))
 }
 
 fn show_change(rt: &impl Print, what: &str, change: Patch) -> io::Result<()> {
     let mask = change.mask;
-    let [a, b, c, d, e, f, g, h] = change.values;
-    println!(rt; "  {what}: mask {mask}, values {a} {b} {c} {d} {e} {f} {g} {h}")
+    println!(rt; "  {what}: mask {mask}, values{}", Spaced(&change.values))
 }
 
 fn show_same(rt: &impl Print, what: &str, a: Attributes, b: Attributes) -> io::Result<()> {
-    if Fields::same(a, b) {
-        println!(rt; "  {what}: the same")
+    let told = if Fields::same(a, b) {
+        "the same"
     } else {
-        println!(rt; "  {what}: not the same")
-    }
+        "not the same"
+    };
+    println!(rt; "  {what}: {told}")
 }
 
 fn show_edits(rt: &impl Print, m: &Moments<Attributes, Patch>) -> io::Result<()> {

@@ -3,187 +3,102 @@ use crate::subject::Subject;
 use crate::tally::{Sort, Tally};
 use history::fault::StoreFault;
 use kind::Kind;
-use lease::registry::Registry;
-use lease::token::{Lease, Writer};
 use std::alloc::{AllocError, Global};
 use std::io;
 use std::rt::Clock;
 use std::time::Instant;
-use store::store::Store;
 
 // The most calls of one batch.
 pub(crate) const MOST: usize = 64;
 
-// A report's time or a writer's number, and a record.
+// What a call takes: a report's time or a writer's number, a record, and for a Change the edit.
 #[derive(Clone, Copy)]
-pub(crate) struct Ask {
+pub(crate) struct Ask<E> {
     pub(crate) time: u32,
     pub(crate) record: u64,
+    pub(crate) edit: E,
 }
 
-// The arguments of a batch, and the places for rows and refusals.
+// One call of a batch: what it takes, the place for a row, and what came of it.
+#[derive(Clone, Copy)]
+struct Turn<E, Row> {
+    ask: Ask<E>,
+    row: Row,
+    end: Result<(), StoreFault>,
+}
+
+// The calls of a batch.
 #[derive(Drop)]
-pub(crate) struct Batch<K: Kind> {
-    pub(crate) asks: Vec<Ask>,
-    pub(crate) edits: Vec<K::Edit>,
-    pub(crate) rows: Vec<K::Row>,
-    pub(crate) ends: Vec<Result<(), StoreFault>>,
+pub(crate) struct Batch<K: Kind, E> {
+    turns: Vec<Turn<E, K::Row>>,
 }
 
-impl<K: Kind> Batch<K> {
+impl<K: Subject, E: Copy> Batch<K, E> {
     // An empty batch, with places for as many calls as there can be.
-    pub(crate) fn new(heap: Global) -> Result<Batch<K>, AllocError> {
-        let mut rows = Vec::with_capacity(heap, MOST)?;
-        let mut ends = Vec::with_capacity(heap, MOST)?;
-        for _i in 0..MOST {
-            rows.push(K::blank())?;
-            ends.push(Ok(()))?;
-        }
-        Ok(Batch {
-            asks: Vec::with_capacity(heap, MOST)?,
-            edits: Vec::with_capacity(heap, MOST)?,
-            rows,
-            ends,
-        })
+    pub(crate) fn new(heap: Global) -> Result<Batch<K, E>, AllocError> {
+        let turns = Vec::with_capacity(heap, MOST)?;
+        Ok(Batch { turns })
     }
 
-    // Forgets the arguments.
+    // Whether the batch has as many calls as there can be.
+    pub(crate) fn is_full(&self) -> bool {
+        self.turns.len() >= MOST
+    }
+
+    // Forgets the calls.
     pub(crate) fn clear(&mut self) {
-        self.asks.clear();
-        self.edits.clear();
+        self.turns.clear();
     }
-}
 
-fn blank_all<K: Kind>(rows: &mut [K::Row]) {
-    for i in 0..rows.len() {
-        rows[i] = K::blank();
+    // One call more.
+    pub(crate) fn ask(&mut self, time: u32, record: u64, edit: E) -> io::Result<()> {
+        self.turns.push(Turn {
+            ask: Ask { time, record, edit },
+            row: K::blank(),
+            end: Ok(()),
+        })?;
+        Ok(())
     }
-}
 
-fn read_each<K: Kind, R: Registry>(
-    store: &Store<K>,
-    registry: &R,
-    asks: &[Ask],
-    rows: &mut [K::Row],
-    ends: &mut [Result<(), StoreFault>],
-) {
-    if rows.len() < asks.len() || ends.len() < asks.len() {
-        return;
+    // Makes each call of the batch, whose place holds the blank row before it.
+    pub(crate) fn make<F: FnMut(&Ask<E>, &mut K::Row) -> Result<(), StoreFault>>(
+        &mut self,
+        clock: &impl Clock,
+        sort: Sort,
+        tally: &mut Tally,
+        call: F,
+    ) -> io::Result<()>
+        requires { F.IsAlwaysCallable call }
+    {
+        self.blank_rows();
+        let start = Instant::now(clock)?;
+        self.call_each(call);
+        tally.spend(sort, start.elapsed(clock)?);
+        self.take_in(sort, tally);
+        Ok(())
     }
-    for i in 0..asks.len() {
-        let ask = asks[i];
-        let lease = Lease::take_up(ask.time);
-        let done = store.read(registry, &lease, ask.record, &mut rows[i]);
-        let _time = lease.write_down();
-        ends[i] = done;
-    }
-}
 
-fn look_each<K: Kind, R: Registry>(
-    store: &Store<K>,
-    registry: &R,
-    asks: &[Ask],
-    rows: &mut [K::Row],
-    ends: &mut [Result<(), StoreFault>],
-) {
-    if rows.len() < asks.len() || ends.len() < asks.len() {
-        return;
+    fn blank_rows(&mut self) {
+        for turn in self.turns.iter_mut() {
+            turn.row = K::blank();
+        }
     }
-    for i in 0..asks.len() {
-        let ask = asks[i];
-        let writer = Writer::take_up(ask.time);
-        let done = store.look(registry, &writer, ask.record, &mut rows[i]);
-        let _number = writer.write_down();
-        ends[i] = done;
-    }
-}
 
-fn change_each<K: Kind, R: Registry>(
-    store: &mut Store<K>,
-    registry: &R,
-    asks: &[Ask],
-    edits: &[K::Edit],
-    ends: &mut [Result<(), StoreFault>],
-) {
-    if edits.len() < asks.len() || ends.len() < asks.len() {
-        return;
+    fn call_each<F: FnMut(&Ask<E>, &mut K::Row) -> Result<(), StoreFault>>(&mut self, mut call: F)
+        requires { F.IsAlwaysCallable call }
+    {
+        for turn in self.turns.iter_mut() {
+            turn.end = call(&turn.ask, &mut turn.row);
+        }
     }
-    for i in 0..asks.len() {
-        let ask = asks[i];
-        let writer = Writer::take_up(ask.time);
-        let done = store.change(registry, &writer, ask.record, edits[i]);
-        let _number = writer.write_down();
-        ends[i] = done;
-    }
-}
 
-// Takes in what the calls of a batch answered, and the rows where they show any.
-fn take_in<K: Subject>(batch: &Batch<K>, sort: Sort, shows: bool, tally: &mut Tally) {
-    for i in 0..batch.asks.len() {
-        if i < batch.ends.len() && i < batch.rows.len() {
-            tally.settle(sort, batch.ends[i]);
-            if shows {
-                K::take_row(tally, batch.rows[i]);
+    // Takes in what the calls answered, and the rows where they show any.
+    fn take_in(&self, sort: Sort, tally: &mut Tally) {
+        for turn in self.turns.iter() {
+            tally.settle(sort, turn.end);
+            if sort.shows_row() {
+                K::take_row(tally, turn.row);
             }
         }
     }
-}
-
-// Reads for each ask of the batch.
-pub(crate) fn reads<K: Subject, R: Registry>(
-    clock: &impl Clock,
-    store: &Store<K>,
-    registry: &R,
-    batch: &mut Batch<K>,
-    tally: &mut Tally,
-) -> io::Result<()> {
-    blank_all::<K>(&mut batch.rows);
-    let start = Instant::now(clock)?;
-    read_each::<K, R>(
-        store,
-        registry,
-        &batch.asks,
-        &mut batch.rows,
-        &mut batch.ends,
-    );
-    tally.spend(Sort::Read, start.elapsed(clock)?);
-    take_in(batch, Sort::Read, true, tally);
-    Ok(())
-}
-
-// Looks for each ask of the batch.
-pub(crate) fn looks<K: Subject, R: Registry>(
-    clock: &impl Clock,
-    store: &Store<K>,
-    registry: &R,
-    batch: &mut Batch<K>,
-    tally: &mut Tally,
-) -> io::Result<()> {
-    blank_all::<K>(&mut batch.rows);
-    let start = Instant::now(clock)?;
-    look_each::<K, R>(
-        store,
-        registry,
-        &batch.asks,
-        &mut batch.rows,
-        &mut batch.ends,
-    );
-    tally.spend(Sort::Look, start.elapsed(clock)?);
-    take_in(batch, Sort::Look, true, tally);
-    Ok(())
-}
-
-// Changes for each ask of the batch, by the edit beside it.
-pub(crate) fn changes<K: Subject, R: Registry>(
-    clock: &impl Clock,
-    store: &mut Store<K>,
-    registry: &R,
-    batch: &mut Batch<K>,
-    tally: &mut Tally,
-) -> io::Result<()> {
-    let start = Instant::now(clock)?;
-    change_each::<K, R>(store, registry, &batch.asks, &batch.edits, &mut batch.ends);
-    tally.spend(Sort::Change, start.elapsed(clock)?);
-    take_in(batch, Sort::Change, false, tally);
-    Ok(())
 }

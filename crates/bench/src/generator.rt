@@ -28,6 +28,13 @@ impl Generator {
         if n == 0 { 0 } else { drawn % n }
     }
 
+    // A place below n, or 0 where n is 0. Casts, since std has no `From` between a `usize` and a `u64`.
+    pub(crate) fn place(&mut self, n: usize) -> usize
+        ensures { 0 < n → result < n }
+    {
+        self.below(n as u64) as usize
+    }
+
     // A number of 32 bits.
     pub(crate) fn wide(&mut self) -> u32 {
         (self.draw() >> 32) as u32

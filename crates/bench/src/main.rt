@@ -29,12 +29,10 @@ fn run_on<K: Subject, R: Registry + Drop>(
     set: &Settings,
     phase: Phase,
 ) -> io::Result<()> {
-    let heap = rt.alloc();
-    let mut drive = Drive::<K, R>::new(heap, set.sizes, set.records, set.seed)?;
-    drive.run(rt, heap, phase, set.rounds)?;
-    let name = phase.name();
+    let mut drive = Drive::<K, R>::new(rt.alloc(), set.sizes, set.records, set.seed)?;
+    drive.run(rt, phase, set.rounds)?;
     let kind = K::name();
-    println!(rt; "{name} {kind}")?;
+    println!(rt; "{phase} {kind}")?;
     drive.tally.show(rt)?;
     if set.time {
         drive.tally.show_times(rt)?;

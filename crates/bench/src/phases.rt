@@ -1,48 +1,56 @@
 // Whole phases: rounds, what a Read costs, one old reader, and the end that all have in common.
 use crate::batch::MOST;
 use crate::drive::Drive;
+use crate::generator::Generator;
 use crate::plan::{Phase, Style};
 use crate::subject::Subject;
 use history::call::{Call, Outcome};
 use lease::registry::Registry;
-use std::alloc::Global;
-use std::io;
 use std::rt::Clock;
+use std::{io, mem};
 
 impl<K: Subject, R: Registry + Drop> Drive<K, R> {
     // One report reads every record.
     fn read_whole(&mut self, clock: &impl Clock, time: u32) -> io::Result<()> {
-        self.batch.clear();
         for record in 0..self.records {
-            self.ask(time, record)?;
-            if self.batch.asks.len() >= MOST {
+            self.reads.ask(time, record, ())?;
+            if self.reads.is_full() {
                 self.read_all(clock)?;
-                self.batch.clear();
             }
         }
         self.read_all(clock)
     }
 
+    // Each report reads every record.
+    fn read_by_each(&mut self, clock: &impl Clock, reports: &[u32]) -> io::Result<()> {
+        for time in reports {
+            self.read_whole(clock, *time)?;
+        }
+        Ok(())
+    }
+
+    // Ends each lease by a call.
+    fn end_each<F: Fn(u32) -> Call<K::Edit>>(
+        &mut self,
+        clock: &impl Clock,
+        leases: &[u32],
+        ending: F,
+    ) -> io::Result<()>
+        requires { F.IsAlwaysCallable ending }
+    {
+        for time in leases {
+            self.call(clock, ending(*time))?;
+        }
+        Ok(())
+    }
+
     // All reports read every record; then everything is closed and abandoned.
     fn end(&mut self, clock: &impl Clock) -> io::Result<()> {
-        for i in 0..self.reports.len() {
-            if i < self.reports.len() {
-                let time = self.reports[i];
-                self.read_whole(clock, time)?;
-            }
-        }
-        for i in 0..self.reports.len() {
-            if i < self.reports.len() {
-                let time = self.reports[i];
-                self.call(clock, Call::Close(time))?;
-            }
-        }
-        for i in 0..self.carried.len() {
-            if i < self.carried.len() {
-                let w = self.carried[i];
-                self.call(clock, Call::Abandon(w))?;
-            }
-        }
+        let reports = mem::replace(&mut self.reports, Vec::new(self.heap));
+        let carried = mem::replace(&mut self.carried, Vec::new(self.heap));
+        self.read_by_each(clock, &reports)?;
+        self.end_each(clock, &reports, |time| Call::Close(time))?;
+        self.end_each(clock, &carried, |writer| Call::Abandon(writer))?;
         self.call(clock, Call::InUse)?;
         Ok(())
     }
@@ -66,22 +74,32 @@ impl<K: Subject, R: Registry + Drop> Drive<K, R> {
         Ok(())
     }
 
-    // Reads of one record, or of any.
-    fn read_rounds(&mut self, clock: &impl Clock, rounds: u64, bound: u64) -> io::Result<()> {
+    // Fills the batch with Reads by any report, each of a record that is drawn.
+    fn ask_reads<F: Fn(&mut Generator) -> u64>(&mut self, draw: &F) -> io::Result<()>
+        requires { F.IsAlwaysCallable draw.now }
+    {
+        for _i in 0..MOST {
+            let time = self.draw_report();
+            let record = draw(&mut self.from);
+            self.reads.ask(time, record, ())?;
+        }
+        Ok(())
+    }
+
+    // Three layers, and then Reads of records that are drawn.
+    fn read_rounds<F: Fn(&mut Generator) -> u64>(
+        &mut self,
+        clock: &impl Clock,
+        rounds: u64,
+        draw: &F,
+    ) -> io::Result<()>
+        requires { F.IsAlwaysCallable draw.now }
+    {
         for _i in 0..3 {
             self.layer(clock)?;
         }
         for _i in 0..rounds {
-            self.batch.clear();
-            for _j in 0..MOST {
-                let time = self.draw_report();
-                let record = if bound == 1 {
-                    0
-                } else {
-                    self.from.below(bound)
-                };
-                self.ask(time, record)?;
-            }
+            self.ask_reads(draw)?;
             self.read_all(clock)?;
         }
         Ok(())
@@ -102,21 +120,18 @@ impl<K: Subject, R: Registry + Drop> Drive<K, R> {
     }
 
     // A whole phase.
-    pub(crate) fn run(
-        &mut self,
-        clock: &impl Clock,
-        heap: Global,
-        phase: Phase,
-        rounds: u64,
-    ) -> io::Result<()> {
+    pub(crate) fn run(&mut self, clock: &impl Clock, phase: Phase, rounds: u64) -> io::Result<()> {
         match phase {
-            Phase::Near => self.read_rounds(clock, rounds, 1)?,
-            Phase::Far => self.read_rounds(clock, rounds, self.records)?,
+            Phase::Near => self.read_rounds(clock, rounds, &|_from: &mut Generator| 0)?,
+            Phase::Far => {
+                let records = self.records;
+                self.read_rounds(clock, rounds, &|from: &mut Generator| from.below(records))?;
+            }
             Phase::Old => self.old_reader(clock, rounds)?,
             _ => {
                 if let Some(plan) = phase.plan(self.records) {
                     for _i in 0..rounds {
-                        self.round(clock, heap, plan)?;
+                        self.round(clock, plan)?;
                     }
                 }
             }

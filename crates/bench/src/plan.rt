@@ -1,4 +1,6 @@
 // The phases of a workload, and what their rounds draw.
+use std::fmt;
+use std::str::FromStr;
 
 #[derive(Clone, Copy)]
 pub(crate) enum Phase {
@@ -10,6 +12,43 @@ pub(crate) enum Phase {
     Near,
     Far,
     Old,
+}
+
+// A word of the command line that names no phase.
+#[derive(Clone, Copy)]
+pub(crate) struct NoPhase;
+
+impl FromStr for Phase {
+    type Err = NoPhase;
+
+    fn from_str(word: &str) -> Result<Phase, NoPhase> {
+        match word {
+            "mixed" => Ok(Phase::Mixed),
+            "whole" => Ok(Phase::Whole),
+            "back" => Ok(Phase::Back),
+            "contend" => Ok(Phase::Contend),
+            "fill" => Ok(Phase::Fill),
+            "near" => Ok(Phase::Near),
+            "far" => Ok(Phase::Far),
+            "old" => Ok(Phase::Old),
+            _ => Err(NoPhase),
+        }
+    }
+}
+
+impl fmt::Display for Phase {
+    fn fmt<W: fmt::Write>(&self, f: &mut fmt::Formatter<W>) -> fmt::Result {
+        f.write_str(match self {
+            Phase::Mixed => "mixed",
+            Phase::Whole => "whole",
+            Phase::Back => "back",
+            Phase::Contend => "contend",
+            Phase::Fill => "fill",
+            Phase::Near => "near",
+            Phase::Far => "far",
+            Phase::Old => "old",
+        })
+    }
 }
 
 // How an edit is drawn.
@@ -35,78 +74,53 @@ pub(crate) struct Plan {
 }
 
 impl Phase {
-    // The phase of a word of the command line.
-    pub(crate) fn named(word: &str) -> Option<Phase> {
-        match word {
-            "mixed" => Some(Phase::Mixed),
-            "whole" => Some(Phase::Whole),
-            "back" => Some(Phase::Back),
-            "contend" => Some(Phase::Contend),
-            "fill" => Some(Phase::Fill),
-            "near" => Some(Phase::Near),
-            "far" => Some(Phase::Far),
-            "old" => Some(Phase::Old),
-            _ => None,
-        }
-    }
-
-    pub(crate) fn name(self) -> &'static str {
-        match self {
-            Phase::Mixed => "mixed",
-            Phase::Whole => "whole",
-            Phase::Back => "back",
-            Phase::Contend => "contend",
-            Phase::Fill => "fill",
-            Phase::Near => "near",
-            Phase::Far => "far",
-            Phase::Old => "old",
-        }
-    }
-
     // What a round of the phase draws, at so many records; none where the phase has no rounds of this sort.
     pub(crate) fn plan(self, records: u64) -> Option<Plan> {
+        let usual = Plan {
+            open: 8,
+            close: 10,
+            writers: 2,
+            style: None,
+            hot: hot(records, 16),
+            abandon: 1,
+            carry: 1,
+        };
         match self {
-            Phase::Mixed => Some(make_plan((8, 10), 2, None, hot(records, 16), (2, 2))),
-            Phase::Whole => Some(make_plan(
-                (8, 10),
-                2,
-                Some(Style::Whole),
-                hot(records, 16),
-                (1, 1),
-            )),
-            Phase::Back => Some(make_plan((8, 10), 2, Some(Style::Back), hot(records, 64), (1, 1))),
-            Phase::Contend => Some(make_plan((8, 10), 4, None, hot(records, 512), (6, 4))),
-            Phase::Fill => {
-                let pace = (records / 32 + 1, records / 24 + 1);
-                Some(make_plan(pace, 2, None, records, (1, 1)))
-            }
-            _ => None,
+            Phase::Mixed => Some(Plan {
+                abandon: 2,
+                carry: 2,
+                ..usual
+            }),
+            Phase::Whole => Some(Plan {
+                style: Some(Style::Whole),
+                ..usual
+            }),
+            Phase::Back => Some(Plan {
+                style: Some(Style::Back),
+                hot: hot(records, 64),
+                ..usual
+            }),
+            Phase::Contend => Some(Plan {
+                writers: 4,
+                hot: hot(records, 512),
+                abandon: 6,
+                carry: 4,
+                ..usual
+            }),
+            Phase::Fill => Some(Plan {
+                open: records / 32 + 1,
+                close: records / 24 + 1,
+                hot: records,
+                ..usual
+            }),
+            Phase::Near | Phase::Far | Phase::Old => None,
         }
     }
 }
 
 // The number of records that are drawn more often.
 fn hot(records: u64, divisor: u64) -> u64 {
-    if divisor == 0 {
-        return records;
-    }
-    (records / divisor).saturating_add(1).min(records)
-}
-
-fn make_plan(
-    pace: (u64, u64),
-    writers: u64,
-    style: Option<Style>,
-    hot: u64,
-    ends: (u64, u64),
-) -> Plan {
-    Plan {
-        open: pace.0,
-        close: pace.1,
-        writers,
-        style,
-        hot,
-        abandon: ends.0,
-        carry: ends.1,
-    }
+    records
+        .checked_div(divisor)
+        .map_or(records, |n| n.saturating_add(1).min(records))
 }

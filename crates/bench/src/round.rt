@@ -5,9 +5,8 @@ use crate::plan::Plan;
 use crate::subject::Subject;
 use history::call::{Call, Outcome};
 use lease::registry::Registry;
-use std::alloc::Global;
-use std::io;
 use std::rt::Clock;
+use std::{array, io, mem};
 
 // The most reports that are open at once.
 const REPORTS: usize = 30;
@@ -33,86 +32,63 @@ impl<K: Subject, R: Registry + Drop> Drive<K, R> {
     }
 
     // The writers that were carried, and new ones.
-    fn begin_writers(&mut self, clock: &impl Clock, plan: Plan) -> io::Result<()> {
-        self.writers.clear();
-        for i in 0..CARRIED {
-            if i < self.carried.len() {
-                let w = self.carried[i];
-                self.writers.push(w)?;
-            }
-        }
-        self.carried.clear();
+    fn begin_writers(&mut self, clock: &impl Clock, plan: Plan) -> io::Result<Vec<u32>> {
+        let mut writers = mem::replace(&mut self.carried, Vec::new(self.heap));
         let fresh = self.from.below(plan.writers).saturating_add(1);
         for _i in 0..fresh {
             if let Outcome::Began(w) = self.call(clock, Call::Begin)? {
-                self.writers.push(w)?;
+                writers.push(w)?;
             }
         }
-        Ok(())
+        Ok(writers)
+    }
+
+    // Each writer with a number below n.
+    fn draw_for_each(&mut self, writers: &[u32], n: u64) -> io::Result<Vec<(u32, u64)>> {
+        let mut drawn = Vec::new(self.heap);
+        for w in writers {
+            drawn.push((*w, self.from.below(n)))?;
+        }
+        Ok(drawn)
     }
 
     // Each writer changes some records and looks at them.
-    fn change_and_look(&mut self, clock: &impl Clock, heap: Global, plan: Plan) -> io::Result<()> {
-        self.batch.clear();
-        let mut counts = Vec::new(heap);
-        for _i in 0..self.writers.len() {
-            counts.push(self.from.below(8) + 1)?;
-        }
-        for i in 0..counts.len() {
-            if i < self.writers.len() {
-                let w = self.writers[i];
-                let n = counts[i];
-                self.draw_changes(w, n, plan)?;
-            }
+    fn change_and_look(
+        &mut self,
+        clock: &impl Clock,
+        writers: &[u32],
+        plan: Plan,
+    ) -> io::Result<()> {
+        for (w, d) in self.draw_for_each(writers, 8)? {
+            self.draw_changes(w, d.saturating_add(1), plan)?;
         }
         self.change_all(clock)?;
         self.look_all(clock)
     }
 
-    // So many numbers below n, one for each writer.
-    fn draw_for_writers(&mut self, heap: Global, n: u64) -> io::Result<Vec<u64>> {
-        let mut drawn = Vec::new(heap);
-        for _i in 0..self.writers.len() {
-            drawn.push(self.from.below(n))?;
-        }
-        Ok(drawn)
-    }
-
-    fn ask_held(&mut self, clock: &impl Clock, heap: Global) -> io::Result<()> {
-        let drawn = self.draw_for_writers(heap, 8)?;
-        for i in 0..drawn.len() {
-            if i < self.writers.len() {
-                let places = if drawn[i] == 0 { 2 } else { MOST };
-                let w = self.writers[i];
-                self.call_with(clock, Call::Held(w), places)?;
-            }
+    fn ask_held(&mut self, clock: &impl Clock, writers: &[u32]) -> io::Result<()> {
+        for (w, d) in self.draw_for_each(writers, 8)? {
+            let places = if d == 0 { 2 } else { MOST };
+            self.call_with(clock, Call::Held(w), places)?;
         }
         Ok(())
     }
 
     // Each writer is abandoned, carried into the next round, or committed.
-    fn end_writers(&mut self, clock: &impl Clock, heap: Global, plan: Plan) -> io::Result<()> {
-        let drawn = self.draw_for_writers(heap, 16)?;
-        for i in 0..drawn.len() {
-            if i < self.writers.len() {
-                let w = self.writers[i];
-                let d = drawn[i];
-                if d < plan.abandon {
-                    self.call(clock, Call::Abandon(w))?;
-                } else if d < plan.abandon.saturating_add(plan.carry)
-                    && self.carried.len() < CARRIED
-                {
-                    self.carried.push(w)?;
-                } else {
-                    self.call(clock, Call::Commit(w))?;
-                }
+    fn end_writers(&mut self, clock: &impl Clock, writers: &[u32], plan: Plan) -> io::Result<()> {
+        for (w, d) in self.draw_for_each(writers, 16)? {
+            if d < plan.abandon {
+                self.call(clock, Call::Abandon(w))?;
+            } else if d < plan.abandon.saturating_add(plan.carry) && self.carried.len() < CARRIED {
+                self.carried.push(w)?;
+            } else {
+                self.call(clock, Call::Commit(w))?;
             }
         }
         Ok(())
     }
 
     fn read_some(&mut self, clock: &impl Clock, plan: Plan) -> io::Result<()> {
-        self.batch.clear();
         for _i in 0..MOST {
             let time = if self.from.below(64) == 0 {
                 u32::MAX
@@ -120,18 +96,17 @@ impl<K: Subject, R: Registry + Drop> Drive<K, R> {
                 self.draw_report()
             };
             let record = self.draw_record(plan.hot);
-            self.ask(time, record)?;
+            self.reads.ask(time, record, ())?;
         }
         self.read_all(clock)
     }
 
     fn ask_kept(&mut self, clock: &impl Clock, plan: Plan) -> io::Result<()> {
-        let mut asked = [(0, 0); 4];
-        for i in 0..4 {
+        let asked: [(u64, usize); 4] = array::from_fn(|_i| {
             let record = self.draw_record(plan.hot);
             let places = if self.from.below(8) == 0 { 1 } else { MOST };
-            asked[i] = (record, places);
-        }
+            (record, places)
+        });
         for (record, places) in asked {
             self.call_with(clock, Call::Kept(record), places)?;
         }
@@ -143,24 +118,21 @@ impl<K: Subject, R: Registry + Drop> Drive<K, R> {
         let drawn = self.from.below(plan.close);
         let n = self.reports.len();
         if n > 0 && (drawn == 0 || n >= REPORTS) {
-            let j = self.from.below(n as u64);
-            let k = self.from.below(n as u64);
-            let at = j.max(k) as usize;
-            if at < self.reports.len() {
-                let time = self.reports.remove(at);
-                self.call(clock, Call::Close(time))?;
-            }
+            let j = self.from.place(n);
+            let k = self.from.place(n);
+            let time = self.reports.remove(j.max(k));
+            self.call(clock, Call::Close(time))?;
         }
         Ok(())
     }
 
     // One round.
-    pub(crate) fn round(&mut self, clock: &impl Clock, heap: Global, plan: Plan) -> io::Result<()> {
+    pub(crate) fn round(&mut self, clock: &impl Clock, plan: Plan) -> io::Result<()> {
         self.maybe_open(clock, plan)?;
-        self.begin_writers(clock, plan)?;
-        self.change_and_look(clock, heap, plan)?;
-        self.ask_held(clock, heap)?;
-        self.end_writers(clock, heap, plan)?;
+        let writers = self.begin_writers(clock, plan)?;
+        self.change_and_look(clock, &writers, plan)?;
+        self.ask_held(clock, &writers)?;
+        self.end_writers(clock, &writers, plan)?;
         self.read_some(clock, plan)?;
         self.ask_kept(clock, plan)?;
         self.maybe_close(clock, plan)?;

@@ -18,10 +18,7 @@ pub(crate) struct Settings {
 
 // A number of the command line.
 fn number(word: Option<String>) -> Option<u64> {
-    match word {
-        Some(text) => text.as_str().parse::<u64>().ok(),
-        None => None,
-    }
+    word?.as_str().parse::<u64>().ok()
 }
 
 // The phases behind the numbers, and whether times are asked for; none where a word is no phase.
@@ -29,17 +26,10 @@ fn phases(heap: Global, words: &mut env::Args) -> io::Result<Option<(Vec<Phase>,
     let mut phases = Vec::new(heap);
     let mut time = false;
     for word in words {
-        if time {
-            return Ok(None);
-        }
-        match Phase::named(word.as_str()) {
-            Some(phase) => phases.push(phase)?,
-            None => {
-                if word.as_str() != "time" {
-                    return Ok(None);
-                }
-                time = true;
-            }
+        match word.as_str().parse::<Phase>() {
+            Ok(phase) if !time => phases.push(phase)?,
+            Err(_) if !time && word.as_str() == "time" => time = true,
+            _ => return Ok(None),
         }
     }
     if phases.is_empty() {

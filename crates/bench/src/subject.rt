@@ -4,6 +4,7 @@ use crate::plan::Style;
 use crate::tally::Tally;
 use fields::{Attributes, Fields, Patch};
 use kind::Kind;
+use std::array;
 use tallies::{Counts, Tallies};
 
 pub(crate) trait Subject: Kind {
@@ -14,24 +15,6 @@ pub(crate) trait Subject: Kind {
     fn take_row(tally: &mut Tally, row: Self::Row);
 }
 
-// Eight values, below the bound or wide.
-fn values(from: &mut Generator, bound: Option<u64>) -> [u32; 8] {
-    let mut values = [0; 8];
-    for i in 0..8 {
-        values[i] = match bound {
-            Some(n) => (from.below(n) & 0xffff_ffff) as u32,
-            None => from.wide(),
-        };
-    }
-    values
-}
-
-// A mask of one attribute.
-fn one_bit(from: &mut Generator) -> u8 {
-    let place = from.below(8);
-    if place < 8 { 1 << place } else { 0 }
-}
-
 impl Subject for Fields {
     fn name() -> &'static str {
         "fields"
@@ -40,39 +23,29 @@ impl Subject for Fields {
     fn draw(style: Style, from: &mut Generator) -> Patch {
         let mask = match style {
             Style::Whole => 255,
-            Style::Back => one_bit(from),
-            Style::One => one_bit(from),
-            Style::Some => (from.below(256) & 255) as u8,
+            Style::Back | Style::One => 1 << from.below(8),
+            Style::Some => from.below(256) as u8,
         };
-        let bound = match style {
-            Style::Back => Some(2),
-            _ => None,
-        };
-        Patch {
-            mask,
-            values: values(from, bound),
-        }
+        let values = array::from_fn(|_i| match style {
+            Style::Back => from.below(2) as u32,
+            _ => from.wide(),
+        });
+        Patch { mask, values }
     }
 
     fn take_row(tally: &mut Tally, row: Attributes) {
         for value in row.values {
-            tally.take(value as u64);
+            tally.take(u64::from(value));
         }
     }
 }
 
-// One of four counters, drawn in a style.
-fn counter(style: Style, from: &mut Generator) -> u64 {
-    match style {
-        Style::Whole => from.draw(),
-        Style::Back => match from.below(3) {
-            0 => 0,
-            1 => 1,
-            _ => u64::MAX,
-        },
-        Style::One => 0,
-        Style::Some => from.below(1000),
-    }
+// One of four counters, the others 0.
+fn one_counter(from: &mut Generator) -> [u64; 4] {
+    let c = from.place(4);
+    let mut values = [0; 4];
+    values[c] = from.draw();
+    values
 }
 
 impl Subject for Tallies {
@@ -81,18 +54,16 @@ impl Subject for Tallies {
     }
 
     fn draw(style: Style, from: &mut Generator) -> Counts {
-        let mut values = [0; 4];
-        if let Style::One = style {
-            let c = from.below(4);
-            let x = from.draw();
-            if c < 4 {
-                values[c as usize] = x;
-            }
-        } else {
-            for i in 0..4 {
-                values[i] = counter(style, from);
-            }
-        }
+        let values = match style {
+            Style::Whole => array::from_fn(|_i| from.draw()),
+            Style::Back => array::from_fn(|_i| match from.below(3) {
+                0 => 0,
+                1 => 1,
+                _ => u64::MAX,
+            }),
+            Style::One => one_counter(from),
+            Style::Some => array::from_fn(|_i| from.below(1000)),
+        };
         Counts { values }
     }
 

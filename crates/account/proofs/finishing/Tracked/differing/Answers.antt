@@ -4,13 +4,13 @@ use Rattle.kind.proofs.Telling.{decided}
 use Rattle.version_table.specs.Chains.{chains}
 use Rattle.account.specs.Finishing.{points}
 use Rattle.account.proofs.Points.{next}
-use Rattle.account.proofs.finishing.differing.Goals.{then-not-same, else-not-same}
-use Rattle.account.proofs.finishing.differing.Goals as goal
+use Rattle.account.proofs.finishing.Tracked.differing.Goals.{then-not-same, else-not-same}
+use Rattle.account.proofs.finishing.Tracked.differing.Goals as goal
 
 pub loop-time-preserved : goal.loop-time-preserved
 loop-time-preserved g c =
     let k = g.K.Kind.ops in
-    let vs = get_or (chains c.args.table.now) 0 [] in
+    let vs = get_or (chains c.args.self.now.table) 0 [] in
     let l = c.loop-time in
     let here = c.row_at-here.result in
     let ts = c.args.times.now in
@@ -23,14 +23,14 @@ loop-time-preserved g c =
     ] in (
       omega (arith, step.0, l.invariant.0),
       λ h.
-          let sum = next k c.args.newest vs l.last here ts l.time-index l.n m b c.loop-time-test.true (c.row_at-here.ensures h) (decided k b l.last here c.same.ensures) step.1 in
-          ap (λ q. m + points k c.args.newest vs q (drop (l.time-index + 1) ts)) step.2 ∙ sum ∙ l.invariant.1 h,
+          let sum = next k c.args.self.now.row vs l.last here ts l.time-index l.n m b c.loop-time-test.true (c.row_at-here.ensures h) (decided k b l.last here c.same.ensures) step.1 in
+          ap (λ q. m + points k c.args.self.now.row vs q (drop (l.time-index + 1) ts)) step.2 ∙ sum ∙ l.invariant.1 h,
     )
 
 pub returns : goal.returns
 returns g c =
     let k = g.K.Kind.ops in
     let l = c.loop-time in
-    let vs = get_or (chains c.args.table.now) 0 [] in
+    let vs = get_or (chains c.args.self.now.table) 0 [] in
     let none = drop_all l.time-index c.args.times.now c.loop-time-test.false in
-    λ h. sym (add-zero l.n) ∙ ap (λ ts. l.n + points k c.args.newest vs l.last ts) (sym none) ∙ l.invariant.1 h
+    λ h. sym (add-zero l.n) ∙ ap (λ ts. l.n + points k c.args.self.now.row vs l.last ts) (sym none) ∙ l.invariant.1 h
