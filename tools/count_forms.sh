@@ -31,5 +31,5 @@ count 'appends-a-text'            lines 'string_bytes out\.new ≡ string_bytes 
 count 'link-to-a-place'           lines '(link|at|start|first|next) ≡ (before|slice_get) '
 count 'vecs-and-arrays'           lines '(Vec<|: \[[A-Za-z0-9_<>]+; [A-Z0-9a-z_]+\]|^ *len: usize|ArrayVec<)'
 count 'match-on-a-step'           lines 'match (call|phase|self|style|sort|command|\(opening)'
-printf '%-28s %s\n' 'answers-files' "$(find crates -path '*/proofs/*' -name Answers.antt | wc -l)"
-printf '%-28s %s\n' 'lines-of-proofs' "$(find crates -path '*/proofs/*' -name '*.antt' -exec cat {} + | wc -l)"
+printf '%-28s %s\n' 'answers-files' "$(find crates -path '*/proofs/*' -not -path '*/out/*' -name Answers.antt | wc -l)"
+printf '%-28s %s\n' 'lines-of-proofs' "$(find crates -path '*/proofs/*' -not -path '*/out/*' -name '*.antt' -exec cat {} + | wc -l)"
