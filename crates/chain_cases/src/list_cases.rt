@@ -1,8 +1,10 @@
 // Lists of 0, 1, 2 and 40 versions, joins within a gap, and versions that change nothing.
 use crate::parts::*;
 use chain::list::{prune_list, read_list};
-use fields::Fields;
+use chain::version::Version;
+use fields::{Fields, Patch};
 use slot_table::SlotTable;
+use std::array;
 use std::test::Fail;
 
 #[test]
@@ -94,11 +96,7 @@ fn no_change(rt: HostRuntime) -> Result<(), Fail> {
 // Forty versions at 40, 39, .. 1, each undoing to its time less one; open 30 and 10: 40 {0: 30} and 30 {0: 10}.
 #[test]
 fn forty_versions(rt: HostRuntime) -> Result<(), Fail> {
-    let mut list = [version(0, 0); 40];
-    for i in 0..40usize {
-        let t = 40 - i as u32;
-        list[i] = version(t, t - 1);
-    }
+    let mut list: [Version<Patch>; 40] = array::from_fn(|i| version(40 - i as u32, 39 - i as u32));
     assert_eq!(rt;
         prune_list::<Fields, SlotTable>(&opened(&[10, 30])?, row(40), &mut list),
         2
