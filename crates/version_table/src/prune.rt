@@ -50,7 +50,7 @@ fn join_down<K: Kind>(table: &mut VersionTable<K::Change>, cursor: Cursor, hand:
     table.cut(cursor);
 }
 
-// Prunes a chain from the cursor on, which leads back from the row.
+// Prunes a chain from the cursor on, which leads back from the row. Where nothing is left to prune the registry is not asked.
 fn prune_from<K: Kind, R: Registry>(
     table: &mut VersionTable<K::Change>,
     registry: &R,
@@ -60,6 +60,10 @@ fn prune_from<K: Kind, R: Registry>(
     requires { Stands table.old.links start }
     ensures { Sets table.old start.list (take start.place (chain table.old start.list) ++ prune K.ops (opens (R.leases registry.now)) row (drop start.place (chain table.old start.list))) table.new }
 {
+    let newest = table.look(start);
+    if newest.is_none() {
+        return;
+    }
     let Some(least) = registry.least_from(0) else {
         table.drop_from(start);
         return;
