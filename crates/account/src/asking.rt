@@ -34,7 +34,7 @@ pub fn ask<R: Registry>(registry: &R, time: u32) -> Standing
     }
 }
 
-// Opens leases at a time until no more is accepted, and answers how many there are more.
+// Opens leases at a time until no more is accepted, and answers how many were opened.
 pub fn fill<R: Registry>(registry: &mut R, time: u32) -> u32
     ensures { length (R.leases registry.new) ≡ length (R.leases registry.old) + result }
 {

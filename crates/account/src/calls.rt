@@ -105,12 +105,12 @@ impl<K: Kind, R: Registry> Book<K, R> {
     }
 
     // A record's row now, and as the report of this name reads it.
-    pub(crate) fn now_and_on(
+    pub(crate) fn now_and_on<'a>(
         &mut self,
-        name: &'static str,
+        name: &'a str,
         report: &Lease,
         record: u64,
-    ) -> Result<(K::Row, K::Row), Refusal>
+    ) -> Result<(K::Row, K::Row), Refusal<'a>>
         ensures { R.leases self.new.registry ≡ R.leases self.old.registry }
     {
         let reported = self.read_row(report, record);

@@ -43,7 +43,8 @@ impl<K: Kind, R: Registry> Tracked<K, R> {
         lead_back::<K>(self.table.chain(0), time, self.row)
     }
 
-    // From the newest row down over the open times: how often the reading differs from the one before.
+    // From the newest row down over the open times: how often the reading differs from the one before. A loop: a fold
+    // would carry the last reading and the count as a pair, and be no plainer.
     pub fn differing(&self, times: &[u32]) -> usize
         ensures { Falling (chain self.now.table 0) → result ≡ points K.ops self.now.row (chain self.now.table 0) self.now.row times.now }
     {

@@ -21,13 +21,13 @@ impl fmt::Display for Refused {
 
 // What was asked for, and why a store refused it.
 #[derive(Clone, Copy)]
-pub(crate) struct Refusal {
-    what: &'static str,
+pub(crate) struct Refusal<'a> {
+    what: &'a str,
     why: Refused,
 }
 
-impl Refusal {
-    pub(crate) fn of(what: &'static str, fault: StoreFault) -> Refusal {
+impl<'a> Refusal<'a> {
+    pub(crate) fn of(what: &'a str, fault: StoreFault) -> Refusal<'a> {
         Refusal {
             what,
             why: Refused(fault),
@@ -35,21 +35,21 @@ impl Refusal {
     }
 }
 
-impl fmt::Display for Refusal {
+impl fmt::Display for Refusal<'_> {
     fn fmt<W: fmt::Write>(&self, f: &mut fmt::Formatter<W>) -> fmt::Result {
         write!(f, "{}: {}", self.what, self.why)
     }
 }
 
 // A line that says what was asked for, and why a store refused it.
-pub fn show_refusal(rt: &impl Print, what: &'static str, fault: StoreFault) -> io::Result<()> {
+pub fn show_refusal(rt: &impl Print, what: &str, fault: StoreFault) -> io::Result<()> {
     println!(rt; "  {}", Refusal::of(what, fault))
 }
 
 // When a change was finished, and how many records it has; or why it was refused.
 pub fn show_finished(
     rt: &impl Print,
-    what: &'static str,
+    what: &str,
     done: Result<(u32, usize), StoreFault>,
 ) -> io::Result<()> {
     match done {

@@ -65,7 +65,7 @@ fn look_at(
     trucks: &mut Trucks,
     writer: &Writer,
     truck: u64,
-) -> Result<(Attributes, Attributes), Refusal>
+) -> Result<(Attributes, Attributes), Refusal<'static>>
     ensures { ⟦<SortedList as Registry>⟧.leases trucks.new.registry ≡ ⟦<SortedList as Registry>⟧.leases trucks.old.registry }
 {
     let mut seen = Fields::blank();

@@ -119,7 +119,7 @@ impl<K: Subject, R: Registry + Drop> Drive<K, R> {
         Ok(())
     }
 
-    // A whole phase.
+    // A whole phase: each arm is what one of them does.
     pub(crate) fn run(&mut self, clock: &impl Clock, phase: Phase, rounds: u64) -> io::Result<()> {
         match phase {
             Phase::Near => self.read_rounds(clock, rounds, &|_from: &mut Generator| 0)?,

@@ -1,4 +1,5 @@
 // What the workload wants of a kind beside its rows and changes: edits drawn from a generator, and a row's numbers for the checksum.
+// A match on a style has the data of one case in each arm, and a number that is drawn below a bound is cast, which loses nothing.
 use crate::generator::Generator;
 use crate::plan::Style;
 use crate::tally::Tally;

@@ -111,7 +111,8 @@ impl Tally {
         }
     }
 
-    // What was counted of a sort, which stands at the sort's number.
+    // What was counted of a sort, which stands at the sort's number: the checksum takes the same number in, and a search by the sort would
+    // be no plainer.
     fn count_of(&mut self, sort: Sort) -> &mut Count {
         &mut self.counts[sort as usize]
     }

@@ -29,7 +29,8 @@ fn open_at(bits: u8) -> Result<SlotTable, Fail> {
     Ok(registry)
 }
 
-// From the newest value back through the open times: how often the reading differs from the one before.
+// From the newest value back through the open times: how often the reading differs from the one before. A loop: a fold would
+// carry the last value and the count as a pair, and be no plainer.
 fn differing(history: u8, bits: u8) -> usize {
     let mut last = value(history, 0);
     let mut n = 0;

@@ -7,7 +7,7 @@ pub enum Call {
     Remove(u32),
 }
 
-// A call; whether it is refused, with number and place; then the answers to the three questions: how many
+// A call; whether it is refused, with number and place, in numbers as the rules give them; then the answers to the three questions: how many
 // leases are open at the call's time, how many in all, and the least open time at or above the call's time.
 #[derive(Clone, Copy, PartialEq, Eq, Debug)]
 pub struct Step {

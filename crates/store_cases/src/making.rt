@@ -1,12 +1,11 @@
 // Making a store: which sizes and starts are accepted.
 use store::sizes::Sizes;
 
-// The number and the place of the refusal, or none.
+// The number and the place of the refusal, as the rules give them, or none.
 fn refused(records: u64, versions: u64, start: u64) -> Option<(u8, u64)> {
-    match Sizes::check(records, versions, start) {
-        Ok(_) => None,
-        Err(fault) => Some((fault.number(), fault.place)),
-    }
+    Sizes::check(records, versions, start)
+        .err()
+        .map(|fault| (fault.number(), fault.place))
 }
 
 #[test]

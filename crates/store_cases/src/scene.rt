@@ -9,7 +9,7 @@ use std::alloc::{AllocError, Global};
 use store::making::Fresh;
 use store::sizes::Sizes;
 
-// What must come of a call: its answer, or a refusal's number, layer and place.
+// What must come of a call: its answer, or a refusal's number, layer and place, as the rules give them, so that they are tested too.
 type Due = Result<Outcome<Attributes>, (u8, Layer, u64)>;
 
 // A call, and what must come of it.

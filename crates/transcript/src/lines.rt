@@ -3,7 +3,7 @@ ghost use Rattle.history.specs.Model.{new_model};
 ghost use Rattle.store.specs.View.{view};
 ghost use Rattle.transcript.specs.Printing.{print_line, print_lines, Behind, left};
 
-use crate::text::Told;
+use crate::text::{End, Told};
 use lease::registry::Registry;
 use run::perform::perform;
 use run::turn::wrote;
@@ -59,7 +59,9 @@ pub fn run_lines<K: ScriptKind, R: Registry + Drop>(
         let number = reader.line();
         run_line::<K, R>(&mut store, &mut registry, line, number, out)?;
     }
-    let used = store.in_use();
-    let leases = registry.total();
-    writeln!(out, "end {used} {leases}")
+    let end = End {
+        used: store.in_use(),
+        leases: registry.total(),
+    };
+    write!(out, "{end}")
 }

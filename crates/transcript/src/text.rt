@@ -1,6 +1,6 @@
 // What is printed of a call's outcome, and of the numbers in it.
 ghost use Rattle.std.specs.Prelude.{Some};
-ghost use Rattle.transcript.specs.Texts.{spaced, outcome_line};
+ghost use Rattle.transcript.specs.Texts.{spaced, outcome_line, end_text};
 
 use history::call::Outcome;
 use script::fault::ScriptFault;
@@ -64,5 +64,22 @@ impl<K: ScriptKind> fmt::Display for Told<'_, K> {
             // A script makes no call with such an outcome.
             Outcome::Held(_) | Outcome::InUse(_) => Ok(()),
         }
+    }
+}
+
+// The last line: the versions in use, and the open leases.
+#[derive(Clone, Copy)]
+pub struct End {
+    pub used: usize,
+    pub leases: u32,
+}
+
+impl fmt::Display for End {
+    ghost output = { λ e. Some (end_text e.used e.leases) };
+
+    fn fmt<W: fmt::Write>(&self, f: &mut fmt::Formatter<W>) -> fmt::Result {
+        let used = self.used;
+        let leases = self.leases;
+        writeln!(f, "end {used} {leases}")
     }
 }

@@ -8,7 +8,8 @@ pub enum Trouble {
     NoMemory,
 }
 
-// Both conversions by hand: a derived one keeps what it is given, and want of memory would print as another text.
+// By hand: a derived conversion would keep the `AllocError`, and want of memory would print as another text; one derived and one by hand
+// would be no plainer.
 impl From<io::Error> for Trouble {
     fn from(error: io::Error) -> Trouble {
         Trouble::Io(error)

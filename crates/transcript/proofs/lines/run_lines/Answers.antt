@@ -32,12 +32,12 @@ returns g c =
     let k = g.K.Kind.ops in
     let t = g.K.ScriptKind.terms in
     let n = g.R.Registry.capacity in
-    IfOk-weaker c.writeln.result _ _
+    IfOk-weaker c.write.result _ _
     (λ _ e. lines_end k t n (r.line + 1)
     (view c.loop-line.store) (view c.loop-line.store) (g.R.Registry.leases c.loop-line.registry) (g.R.Registry.leases c.loop-line.registry)
-    (string_bytes c.loop-line.out) (string_bytes c.writeln.new.self) _
-    (left r) c.in_use-used.result c.total-leases.result (no_line r c.in_default.ensures.lines) c.in_use-used.ensures c.total-leases.ensures e
+    (string_bytes c.loop-line.out) (string_bytes c.write.new.self) _
+    (left r) c.in_use.result c.total.result (no_line r c.in_default.ensures.lines) c.in_use.ensures c.total.ensures e
     (c.loop-line.invariant
     ∙ ap (λ m. string_bytes c.args.out.now ++ print_lines k t n (from.line + 1) m (g.R.Registry.leases c.empty-registry.result) (left from)) new
     ∙ ap (λ ls. string_bytes c.args.out.now ++ print_lines k t n (from.line + 1) (new_model k c.args.sizes.records c.args.sizes.versions c.args.sizes.start) ls (left from)) none))
-    c.writeln.ensures.bytes
+    c.write.ensures.bytes
