@@ -29,14 +29,14 @@ impl<E: Copy> RecordEdit<E> {
     }
 }
 
-// A store and the registry of its leases, which every call is made with.
+// A store and the registry of its leases, which every call is made with: the two are one value here.
 #[derive(Drop)]
-pub struct Book<K: Kind, R> {
+pub struct LeasedStore<K: Kind, R> {
     pub store: Store<K>,
     pub registry: R,
 }
 
-impl<K: Kind, R: Registry> Book<K, R> {
+impl<K: Kind, R: Registry> LeasedStore<K, R> {
     // Makes each change for a writer, up to the first that is refused.
     pub fn make_each(
         &mut self,

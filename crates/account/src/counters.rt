@@ -1,5 +1,5 @@
 // The yard manager's counters: a store of their own, with a registry of its own.
-use crate::calls::{Book, RecordEdit};
+use crate::calls::{LeasedStore, RecordEdit};
 use crate::edits::load;
 use crate::office::Trucks;
 use crate::refusals::{show_finished, show_refusal};
@@ -13,7 +13,7 @@ use store::sizes::Sizes;
 use store::store::Store;
 use tallies::{Tallies, numbers};
 
-type Counters = Book<Tallies, SlotTable>;
+type Counters = LeasedStore<Tallies, SlotTable>;
 
 // The counters of a yard now and on the report.
 fn show_counters(
@@ -68,7 +68,7 @@ fn more_loads(
 
 // The counters in a new store.
 fn counters_of(rt: &impl Print, heap: Global, trucks: &Trucks, sizes: Sizes) -> io::Result<()> {
-    let mut counters = Book {
+    let mut counters = LeasedStore {
         store: Store::make(heap, sizes)?,
         registry: SlotTable::empty(),
     };

@@ -1,7 +1,7 @@
 // The hour of a statement, from the first weights to the buyer's question.
 ghost use Rattle.std.specs.Prelude.{◌≡◌};
 
-use crate::calls::Book;
+use crate::calls::LeasedStore;
 use crate::counters::manager;
 use crate::refusals::show_refusal;
 use crate::service::{buyer, engineer};
@@ -16,7 +16,7 @@ use store::sizes::Sizes;
 use store::store::Store;
 
 // The trucks' weights.
-pub type Trucks = Book<Fields, SortedList>;
+pub type Trucks = LeasedStore<Fields, SortedList>;
 
 // What happens while the statement is open.
 fn meanwhile(
@@ -39,7 +39,7 @@ fn meanwhile(
 
 // The hour over a store of these sizes.
 fn hour_of(rt: &impl Print, heap: Global, sizes: Sizes) -> io::Result<()> {
-    let mut trucks = Book {
+    let mut trucks = LeasedStore {
         store: Store::make(heap, sizes)?,
         registry: SortedList::empty(),
     };

@@ -1,7 +1,7 @@
 use Rattle.std.proofs.Common.{ap}
 use Rattle.store.specs.Calls.{Opens}
 use Rattle.account.proofs.Tokens.{given_back}
-use Rattle.account.proofs.calls.Book.read_now.Goals as goal
+use Rattle.account.proofs.calls.LeasedStore.read_now.Goals as goal
 
 pub returns-in_err-lease : goal.returns-in_err-lease
 unfolding Opens

@@ -1,7 +1,7 @@
 use Rattle.std.proofs.Common.{◌≡◌, drop}
 use Rattle.store.specs.View.{view}
 use Rattle.account.specs.Calls.{change_each}
-use Rattle.account.proofs.calls.Book.make_each.Given as goal
+use Rattle.account.proofs.calls.LeasedStore.make_each.Given as goal
 
 -- the registry stays; what is left to make, from the store now, comes to the whole
 abbrev pub invariant-loop-one : goal.invariant-loop-one

@@ -5,7 +5,7 @@ use Rattle.store.specs.Calls.{Changes}
 use Rattle.store.specs.View.{view}
 use Rattle.account.specs.Calls.{change_each}
 use Rattle.account.proofs.Changes.{one_made, one_refused}
-use Rattle.account.proofs.calls.Book.make_each.Goals as goal
+use Rattle.account.proofs.calls.LeasedStore.make_each.Goals as goal
 
 pub loop-one-preserved : goal.loop-one-preserved
 unfolding Changes

@@ -1,7 +1,7 @@
 use Rattle.std.proofs.Common.{◌∙◌}
 use Rattle.lease.specs.Times.{delete}
 use Rattle.store.specs.Calls.{Commits, Abandons}
-use Rattle.account.proofs.calls.Book.commit_or_abandon.Goals as goal
+use Rattle.account.proofs.calls.LeasedStore.commit_or_abandon.Goals as goal
 
 pub returns-in-Ok : goal.returns-in-Ok
 unfolding Commits

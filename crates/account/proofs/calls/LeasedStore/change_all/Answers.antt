@@ -1,7 +1,7 @@
 use Rattle.std.proofs.Common.{ap, ◌∙◌}
 use Rattle.store.specs.Calls.{Begins, Abandons}
 use Rattle.account.proofs.Tokens.{given_back}
-use Rattle.account.proofs.calls.Book.change_all.Goals as goal
+use Rattle.account.proofs.calls.LeasedStore.change_all.Goals as goal
 
 pub returns-in_err-writer : goal.returns-in_err-writer
 unfolding Begins

@@ -1,6 +1,6 @@
 use Rattle.std.proofs.lemmas.Result.{err_from_is_err_and}
 use Rattle.store.specs.Calls.{Reads}
-use Rattle.account.proofs.calls.Book.read_row.Goals as goal
+use Rattle.account.proofs.calls.LeasedStore.read_row.Goals as goal
 
 pub returns-in_err-read : goal.returns-in_err-read
 unfolding Reads
