@@ -1,4 +1,6 @@
 // The yard manager's counters: a store of their own, with a registry of its own.
+ghost use Rattle.std.specs.Prelude.{◌≡◌};
+
 use crate::calls::{LeasedStore, RecordEdit};
 use crate::edits::load;
 use crate::office::Trucks;
@@ -21,7 +23,9 @@ fn show_counters(
     counters: &mut Counters,
     report: &Lease,
     yard: u64,
-) -> io::Result<()> {
+) -> io::Result<()>
+    ensures { ⟦<SlotTable as Registry>⟧.leases counters.new.registry ≡ ⟦<SlotTable as Registry>⟧.leases counters.old.registry }
+{
     match counters.now_and_on("the report", report, yard) {
         Ok((newest, reported)) => {
             let [loads, kg, _, _] = numbers(newest);
@@ -35,7 +39,9 @@ fn show_counters(
 }
 
 // The first loads of two yards.
-fn first_loads(rt: &impl Print, counters: &mut Counters) -> io::Result<()> {
+fn first_loads(rt: &impl Print, counters: &mut Counters) -> io::Result<()>
+    ensures { ⟦<SlotTable as Registry>⟧.leases counters.new.registry ≡ ⟦<SlotTable as Registry>⟧.leases counters.old.registry }
+{
     let edits = [
         RecordEdit::of(0, load(2, 38000)),
         RecordEdit::of(1, load(1, 21500)),
@@ -49,7 +55,9 @@ fn more_loads(
     trucks: &Trucks,
     counters: &mut Counters,
     report: &Lease,
-) -> io::Result<()> {
+) -> io::Result<()>
+    ensures { ⟦<SlotTable as Registry>⟧.leases counters.new.registry ≡ ⟦<SlotTable as Registry>⟧.leases counters.old.registry }
+{
     println!(rt; "The manager opens a report at {}.", report.time())?;
     let edits = [RecordEdit::of(0, load(3, 61000))];
     show_finished(rt, "more loads", counters.change_all(&edits))?;

@@ -122,10 +122,13 @@ impl<K: Subject, R: Registry + Drop> Drive<K, R> {
     // A whole phase: each arm is what one of them does.
     pub(crate) fn run(&mut self, clock: &impl Clock, phase: Phase, rounds: u64) -> io::Result<()> {
         match phase {
-            Phase::Near => self.read_rounds(clock, rounds, &|_from: &mut Generator| 0)?,
-            Phase::Far => {
+            // Of one record none is drawn.
+            Phase::Far if self.records > 1 => {
                 let records = self.records;
                 self.read_rounds(clock, rounds, &|from: &mut Generator| from.below(records))?;
+            }
+            Phase::Near | Phase::Far => {
+                self.read_rounds(clock, rounds, &|_from: &mut Generator| 0)?
             }
             Phase::Old => self.old_reader(clock, rounds)?,
             _ => {

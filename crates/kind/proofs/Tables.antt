@@ -15,6 +15,20 @@ from_places (suc n) i (x ∷ xs) f e h =
 pub is_table : (n : ℕ) (xs : List ℕ) (f : ℕ → ℕ) → length xs ≡ n → ((k : ℕ) → k < n → get_or xs k 0 ≡ f k) → xs ≡ table n f
 is_table n xs f e h = from_places n 0 xs f e (λ k l. h k l ∙ ap f (let z : k ≡ 0 + k = omega arith in z))
 
+from_at : (n i : ℕ) (f : ℕ → ℕ) (k : ℕ) → k < n → get_or (table_from i n f) k 0 ≡ f (i + k)
+from_at zero i f k h = absurd (let z : ⊥ = omega arith in z)
+from_at (suc n) i f zero h = ap f (let z : i ≡ i + 0 = omega arith in z)
+from_at (suc n) i f (suc k) h = from_at n (i + 1) f k (omega arith) ∙ ap f (let z : (i + 1) + k ≡ i + suc k = omega arith in z)
+
+pub table_at : (n : ℕ) (f : ℕ → ℕ) (k : ℕ) → k < n → get_or (table n f) k 0 ≡ f k
+table_at n f k h = from_at n 0 f k h ∙ ap f (let z : 0 + k ≡ k = omega arith in z)
+
+-- a table of zeros has zero at every place, and past its end
+pub zeros_at : (i n k : ℕ) → get_or (table_from i n (λ _. 0)) k 0 ≡ 0
+zeros_at i zero k = refl
+zeros_at i (suc n) zero = refl
+zeros_at i (suc n) (suc k) = zeros_at (i + 1) n k
+
 -- equal at each place
 pub tables_alike : (i n : ℕ) (f g : ℕ → ℕ) → ((k : ℕ) → f k ≡ g k) → table_from i n f ≡ table_from i n g
 tables_alike i zero f g h = refl

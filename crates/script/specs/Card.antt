@@ -11,6 +11,7 @@ use Rattle.script.specs.declared.fault.ScriptCause.{ScriptCause}
 use Rattle.script.specs.declared.fault.ScriptCause.TheVariants.{UnknownLetter, BadWord, TooLong, FromStore}
 use Rattle.script.specs.declared.fault.BadWord.{BadWord as bad_word}
 use Rattle.script.specs.declared.fault.ScriptFault.{ScriptFault}
+use Rattle.script.specs.declared.fault.Refusal.{Refusal}
 
 abbrev pub script_number : ScriptCause → ℕ
 script_number UnknownLetter = 11
@@ -35,3 +36,6 @@ too_long = record { cause = TooLong; place = 65536; line = 0 }
 
 abbrev pub fault_from_store : ℕ → StoreFault → ScriptFault
 fault_from_store n f = record { cause = FromStore f; place = f.place; line = n }
+
+abbrev pub refusal_of : ScriptFault → Refusal
+refusal_of f = record { number = script_number f.cause; layer = script_layer f.cause; place = f.place; line = f.line }

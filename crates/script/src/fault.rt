@@ -1,5 +1,5 @@
 ghost use Rattle.std.specs.Prelude.{◌≡◌};
-ghost use Rattle.script.specs.Card.{script_number, script_layer, unknown_letter_fault, bad_word_fault, too_long, fault_from_store};
+ghost use Rattle.script.specs.Card.{script_number, script_layer, unknown_letter_fault, bad_word_fault, too_long, fault_from_store, refusal_of};
 
 use history::fault::StoreFault;
 use lease::fault::Layer;
@@ -23,6 +23,15 @@ pub struct BadWord {
 #[derive(Clone, Copy)]
 pub struct ScriptFault {
     pub cause: ScriptCause,
+    pub place: u64,
+    pub line: usize,
+}
+
+// A refusal by its number, layer and place, whoever gave it, and the line of the script.
+#[derive(Clone, Copy)]
+pub struct Refusal {
+    pub number: u8,
+    pub layer: Layer,
     pub place: u64,
     pub line: usize,
 }
@@ -69,6 +78,18 @@ impl ScriptFault {
             cause: ScriptCause::FromStore(fault),
             place: fault.place,
             line,
+        }
+    }
+
+    // What is printed of it.
+    pub fn refusal(&self) -> Refusal
+        ensures { result ≡ refusal_of self.now }
+    {
+        Refusal {
+            number: self.number(),
+            layer: self.layer(),
+            place: self.place,
+            line: self.line,
         }
     }
 

@@ -1,6 +1,7 @@
 -- Entries in rising order: what they mean, and how the questions are answered from the place that a search finds.
-use Rattle.std.proofs.Common.{◌≡◌, ℕ, zero, suc, ◌+◌, ◌-◌, ◌<◌, ◌≤◌, true, cond, ltb, List, [], ◌∷◌, length, get_or, Some, None, Option, sym, refl, ap, ◌∙◌, ⊎_elim, arith}
-use Rattle.std.specs.List.{sum_by}
+use Rattle.std.proofs.Common.{◌≡◌, ℕ, zero, suc, ◌+◌, ◌-◌, ◌<◌, ◌≤◌, Bool, true, cond, leb, List, [], ◌∷◌, length, get_or, Some, None, Option, sym, refl, ap, ◌∙◌, ⊎_elim, arith}
+use Rattle.std.specs.List.{find, sum_by}
+use Rattle.std.specs.Option.{option_map}
 use Rattle.std.proofs.lemmas.Bool.Decides.{nat_tests}
 use Rattle.std.proofs.lemmas.Bool.{lt-leb, le-leb, cases_lt}
 use Rattle.std.proofs.lemmas.List.Sums.{sum_by-cons}
@@ -8,6 +9,10 @@ use Rattle.lease.specs.Times.{insert, count, least, sooner}
 use Rattle.lease.proofs.Bags.{insert_comm, length-insert, count-insert, least-insert}
 use Rattle.sorted_list.specs.declared.Entry.{Entry}
 use Rattle.sorted_list.specs.Entries.{many, times, size, rising, ahead, no_entry, Gap}
+
+-- what the searches ask of an entry: that it is not below a time
+abbrev pub reached : ℕ → Entry → Bool
+reached t e = leb t e.time
 
 length-many : (n t : ℕ) (l : List ℕ) → length (many n t l) ≡ n + length l
 length-many zero t l = omega arith
@@ -131,15 +136,13 @@ least-behind t u (f ∷ fs) a r =
     (λ le. ap (sooner (Some u)) (least_entry t f (times fs) p le) ∙ nearer u f.time (least t (times fs)) (omega arith) ∙ ih)
     (cases_lt f.time t)
 
--- the times before the place i are below t, and those from it on are not
-pub least_at : (t : ℕ) (es : List Entry) (i : ℕ) → i ≤ length es → ((j : ℕ) → j < i → (get_or es j no_entry).time < t) → ((j : ℕ) → i ≤ j → j < length es → t ≤ (get_or es j no_entry).time) → rising es ≡ true → cond (ltb i (length es)) (Some (get_or es i no_entry).time) None ≡ least t (times es)
-least_at t [] i h before after r = grind (arith, nat_tests)
-least_at t (e ∷ es) zero h before after r =
+-- the first entry that is not below t has the least time at or above it
+pub least_found : (t : ℕ) (es : List Entry) → rising es ≡ true → option_map (λ (e : Entry). e.time) (find (reached t) es) ≡ least t (times es)
+least_found t [] r = refl
+least_found t (e ∷ es) r =
     let p : 0 < e.count = grind (arith, nat_tests) in
     let b : ahead e.time es ≡ true = grind (arith, nat_tests) in
-    let x = least_entry t e (times es) p (after 0 (omega arith) (omega arith)) ∙ least-behind t e.time es b (rising_tail e es r) in
-    grind (arith, nat_tests)
-least_at t (e ∷ es) (suc i) h before after r =
-    let ih = least_at t es i (omega arith) (λ j b. before (suc j) (omega arith)) (λ j le b. after (suc j) (omega arith) (omega arith)) (rising_tail e es r) in
-    let x = least_skip t e.count e.time (times es) (before 0 (omega arith)) in
-    grind (arith, nat_tests)
+    ⊎_elim
+    (λ lt. ap (λ b. option_map (λ (x : Entry). x.time) (cond b (Some e) (find (reached t) es))) (lt-leb t e.time lt) ∙ least_found t es (rising_tail e es r) ∙ sym (least_skip t e.count e.time (times es) lt))
+    (λ le. ap (λ b. option_map (λ (x : Entry). x.time) (cond b (Some e) (find (reached t) es))) (le-leb t e.time le) ∙ sym (least_entry t e (times es) p le ∙ least-behind t e.time es b (rising_tail e es r)))
+    (cases_lt e.time t)

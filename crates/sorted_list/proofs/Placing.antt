@@ -21,6 +21,10 @@ size-put c [] (suc i) = refl
 size-put c (e ∷ es) zero = refl
 size-put c (e ∷ es) (suc i) = omega (arith, size-put c es i)
 
+-- wherever an entry is put in
+pub put_grows : (c : Entry) (es new : List Entry) (i : ℕ) → new ≡ put_in es i c → size new ≡ c.count + size es
+put_grows c es new i e = ap size e ∙ size-put c es i
+
 gap_tail : (t : ℕ) (e : Entry) (es : List Entry) (i : ℕ) → Gap t (e ∷ es) (suc i) → Gap t es i
 gap_tail t e es i g = record {
   within = omega (arith, g.within);
@@ -68,6 +72,10 @@ out_rising (f ∷ es) (suc i) r =
     let ih = out_rising es i in
     let x = out_ahead f.time es i in
     grind (arith, nat_tests)
+
+-- whichever entry is taken out
+pub out_left : (es new : List Entry) (i : ℕ) → new ≡ remove es i → rising es ≡ true → (size new ≤ size es) × (rising new ≡ true)
+out_left es new i e r = (omega (arith, ap size e, out_size es i), ap rising e ∙ out_rising es i r)
 
 pub out_means : (es : List Entry) (i t : ℕ) → i < length es → (get_or es i no_entry).time ≡ t → (get_or es i no_entry).count ≤ 1 → rising es ≡ true → times (remove es i) ≡ delete t (times es)
 out_means es i t h e c r =

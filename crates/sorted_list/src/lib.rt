@@ -30,11 +30,17 @@ pub struct SortedList {
 }
 
 impl SortedList {
-    // Where the entry of a time stands, or where it would go.
+    // Where the entry of a time stands, or where it would go. The pass stops at the first entry that is not below the time: among few
+    // leases that is sooner than a binary search.
     fn place_of(&self, time: u32) -> Result<usize, usize>
         ensures { Searched time self.now.entries.items result }
     {
-        self.entries.binary_search_by_key(&time, |e| e.time)
+        let entries = self.entries.as_slice();
+        match entries.iter().position(|e| time <= e.time) {
+            Some(i) if entries[i].time == time => Ok(i),
+            Some(i) => Err(i),
+            None => Err(entries.len()),
+        }
     }
 }
 
@@ -94,7 +100,6 @@ impl Registry for SortedList {
 
     // The first time at or above the time is the least.
     fn least_from(&self, time: u32) -> Option<u32> {
-        let i = self.entries.partition_point(|e| e.time < time);
-        self.entries.get(i).map(|e| e.time)
+        self.entries.iter().find(|e| time <= e.time).map(|e| e.time)
     }
 }

@@ -21,7 +21,8 @@ impl<K: Kind> Tables<K> {
             last: 0,
             holder: None,
         };
-        let all = vec![in heap; blank; records]?;
+        // Copied, and not cloned as by `vec!`: a kind does not promise that a clone of its rows cannot fail.
+        let all = (0..records).map(|_record| blank).collect(heap)?;
         let table = VersionTable::new(
             heap,
             records,

@@ -80,6 +80,10 @@ inside t u v e = slice_get_inside (chain t u.list) u.place v (sym e)
 pub next_of : {C : Type 0} (t : VersionTable C) (u n : Cursor) (o : Option (Version C)) → n.list ≡ u.list → n.place ≡ u.place + 1 → o ≡ slice_get (chain t n.list) n.place → o ≡ slice_get (chain t u.list) (u.place + 1)
 next_of t u n o l p e = e ∙ (λ j. slice_get (chain t (l j)) (p j))
 
+-- the next version comes to stand at a place that leaves
+pub moved_up : {X : Type 0} (C D : List X) (k : ℕ) → drop k D ≡ drop (k + 1) C → slice_get C (k + 1) ≡ slice_get D k
+moved_up C D k e = sym (slice_get_drop C (k + 1)) ∙ (λ j. slice_get (sym e j) 0) ∙ slice_get_drop D k
+
 -- one version less is still to come
 pub fewer : {X : Type 0} (C D : List X) (k : ℕ) (R : List X) → k < length C → drop k D ≡ R → length R ≤ length (drop (k + 1) C) → length (drop k D) < length (drop k C)
 fewer C D k R h e l = omega (arith, ap length e, length-drop k C, length-drop (k + 1) C)

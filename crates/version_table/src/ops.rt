@@ -20,7 +20,8 @@ impl<C: Copy> VersionTable<C> {
         ensures { IfOk result (λ k. (chains k ≡ replicate records []) × (capacity k ≡ versions)) }
     {
         let links = Links::new(heap, records, versions)?;
-        let versions = vec![in heap; blank; versions]?;
+        // Copied, and not cloned as by `vec!`: a kind does not promise that a clone of its changes cannot fail.
+        let versions = (0..versions).map(|_slot| blank).collect(heap)?;
         Ok(VersionTable { links, versions })
     }
 

@@ -70,7 +70,8 @@ fn prune_from<K: Kind, R: Registry>(
     };
     let mut reached = row;
     let mut here = start;
-    while let Some(hand) = table.look(here) {
+    let mut at = newest;
+    while let Some(hand) = at {
         let next = table.links.step(here);
         let older = table.look(next);
         if apart(registry, least, hand.time, older) {
@@ -81,8 +82,10 @@ fn prune_from<K: Kind, R: Registry>(
                 reached = back;
                 here = next;
             }
+            at = older;
         } else {
             join_down::<K>(table, here, hand);
+            at = table.look(here);
         }
     }
 }

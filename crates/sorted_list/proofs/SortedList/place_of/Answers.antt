@@ -1,14 +1,16 @@
-use Rattle.std.proofs.Common.{rules, ap, ◌∙◌, subst}
-use Rattle.std.proofs.lemmas.List.Sorted.{answers_always}
-use Rattle.sorted_list.specs.declared.Entry.{Entry}
-use Rattle.sorted_list.specs.Entries.{rising, Searched}
-use Rattle.sorted_list.proofs.Searching.{searched}
+use Rattle.std.proofs.Common.{rules, tests, ap, ◌∙◌, sym, subst}
+use Rattle.std.proofs.lemmas.Iterator.{YieldsList-from_slice}
+use Rattle.std.proofs.lemmas.Iterator.Search.{position_from_yields_List}
+use Rattle.sorted_list.specs.Entries.{rising, Gap}
+use Rattle.sorted_list.proofs.Meaning.{reached}
+use Rattle.sorted_list.proofs.Searching.{stopped}
 use Rattle.sorted_list.proofs.SortedList.place_of.Goals as goal
 
-pub returns : goal.returns
-returns c =
-    let facts = c.binary_search_by_key.ensures in
-    let o = c.binary_search_by_key.result in
-    let e = c.deref.ensures.0 in
-    let by_key = facts.position (λ (e : Entry). e.time) (answers_always _ _ _ (λ f a r g called. search rules)) in
-    subst (λ xs. Searched c.args.time xs o) e (searched c.deref.result.now (ap rising e ∙ c.args.self.now.ordered) c.args.time o facts.bound by_key)
+pub returns-in-Some-2 : goal.returns-in-Some-2
+returns-in-Some-2 c =
+    let t = c.args.time in
+    let es = c.as_slice-entries.result.now in
+    let i = c.in-Some.i in
+    let e = c.as_slice-entries.ensures.value in
+    let found = position_from_yields_List (reached t) _ _ c.position.result c.position.ensures.ran (YieldsList-from_slice es cc) (λ x b q k. search (rules, tests)) in
+    subst (λ xs. Gap t xs c.in-Some.i) e (stopped t es i (ap rising e ∙ c.args.self.now.ordered) (sym found ∙ c.in-Some.is) c.if-entries-i.false)

@@ -1,8 +1,8 @@
 use Rattle.std.proofs.Common.{refl, ap, ◌∙◌, arith}
 use Rattle.sorted_list.specs.declared.Entry.{Entry}
-use Rattle.sorted_list.specs.Entries.{times, size, rising}
+use Rattle.sorted_list.specs.Entries.{times, rising}
 use Rattle.sorted_list.proofs.Meaning.{length-times, length_le_size, count_le_size}
-use Rattle.sorted_list.proofs.Placing.{times-put, size-put, rising-put}
+use Rattle.sorted_list.proofs.Placing.{times-put, put_grows, rising-put}
 use Rattle.sorted_list.proofs.Changing.{raised}
 use Rattle.sorted_list.proofs.SortedListRegistry.add.Goals as goal
 
@@ -34,7 +34,7 @@ insert-requires c =
     let es = s.entries.items in
     let g = c.in-Err.ensures in
     let l = length-times es in
-    (omega arith, (g.within, omega (arith, length_le_size es s.ordered, c.total-held.ensures, c.if-held-ge-CAPACITY.false)))
+    (omega arith, (omega (arith, g.within), omega (arith, length_le_size es s.ordered, c.total-held.ensures, c.if-held-ge-CAPACITY.false)))
 
 pub invariant_of-self-in-Err : goal.invariant_of-self-in-Err
 invariant_of-self-in-Err c =
@@ -44,7 +44,7 @@ invariant_of-self-in-Err c =
     let one : Entry = record { time = c.args.time; count = 1 } in
     let l = length-times es in
     record {
-      few = omega (arith, ap size c.insert.ensures.items, size-put one es c.in-Err.i, c.total-held.ensures, c.if-held-ge-CAPACITY.false);
+      few = omega (arith, put_grows one es _ _ c.insert.ensures.items, c.total-held.ensures, c.if-held-ge-CAPACITY.false);
       ordered = ap rising c.insert.ensures.items ∙ rising-put one es c.in-Err.i (omega arith) s.ordered g;
     }
 

@@ -1,7 +1,7 @@
 use Rattle.std.proofs.Common.{get_or, refl, ap, ◌∙◌, arith}
-use Rattle.sorted_list.specs.Entries.{times, size, rising, no_entry}
+use Rattle.sorted_list.specs.Entries.{times, no_entry}
 use Rattle.sorted_list.proofs.Meaning.{count_at, count_gap, positive}
-use Rattle.sorted_list.proofs.Placing.{out_size, out_rising, out_means}
+use Rattle.sorted_list.proofs.Placing.{out_left, out_means}
 use Rattle.sorted_list.proofs.Changing.{lowered}
 use Rattle.sorted_list.proofs.SortedListRegistry.remove.Goals as goal
 
@@ -23,9 +23,8 @@ invariant_of-self c =
 pub invariant_of-self-else-deref-i-gt-LAST : goal.invariant_of-self-else-deref-i-gt-LAST
 invariant_of-self-else-deref-i-gt-LAST c =
     let s = c.args.self.now in
-    let es = s.entries.items in
-    let e = c.remove.ensures.items in
-    record { few = omega (arith, ap size e, out_size es c.in-Ok.i, s.few); ordered = ap rising e ∙ out_rising es c.in-Ok.i s.ordered }
+    let left = out_left s.entries.items _ _ c.remove.ensures.items s.ordered in
+    record { few = omega (arith, left.0, s.few); ordered = left.1 }
 
 pub returns-then-deref-i-gt-LAST : goal.returns-then-deref-i-gt-LAST
 returns-then-deref-i-gt-LAST c =
