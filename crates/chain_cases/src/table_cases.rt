@@ -1,7 +1,9 @@
 // The version table: filled, emptied and filled again; two chains interleaved; pruning in place.
 use crate::parts::*;
+use chain::version::Version;
 use fields::{Fields, Patch};
 use slot_table::SlotTable;
+use std::alloc::AllocError;
 use std::process::Abort;
 use std::test::Fail;
 use version_table::prune::{prune_behind, prune_chain};
@@ -72,6 +74,32 @@ fn no_such_chain(rt: HostRuntime) -> Result<(), Fail> {
     table.clear(2);
     assert_eq!(rt; table.len(2), 0);
     assert_eq!(rt; table.used(), 0);
+    Ok(())
+}
+
+// A change that is copied, but whose clone finds no memory.
+#[derive(Copy)]
+struct Grudging {
+    value: u32,
+}
+
+impl Clone for Grudging {
+    fn clone(&self) -> Result<Grudging, AllocError> {
+        Err(AllocError)
+    }
+}
+
+// A kind's changes are copied into a new table's slots, and not cloned.
+#[test]
+fn slots_are_copied(rt: HostRuntime) -> Result<(), Fail> {
+    let blank = Version {
+        time: 0,
+        change: Grudging { value: 0 },
+    };
+    let mut table = VersionTable::new(rt.alloc(), 2, 3, blank)?;
+    let change = Grudging { value: 7 };
+    assert!(rt; table.push(1, Version { time: 2, change }));
+    assert_eq!(rt; table.pop(1).map(|version| version.change.value), Some(7));
     Ok(())
 }
 

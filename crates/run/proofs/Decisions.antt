@@ -1,12 +1,10 @@
 -- From what a call promises to the model's step: the checks o decide on the step st.
-use Rattle.std.proofs.Common.{◌≡◌, ℕ, List, [], ◌++◌, length, take, drop, Some, None, Err, Option, Result, sym, refl, ap, ◌∙◌, subst}
+use Rattle.std.proofs.Common.{◌≡◌, ℕ, List, [], ◌++◌, length, take, drop, Some, None, Option, sym, refl, ap, ◌∙◌, subst}
 use Rattle.std.proofs.lemmas.List.{take-append-drop}
-use Rattle.std.proofs.lemmas.Result.{err_from_is_err_and}
-use Rattle.std.specs.Result.{IsErrAnd}
 use Rattle.history.specs.declared.call.Outcome.{Outcome}
 use Rattle.history.specs.declared.fault.StoreFault.{StoreFault}
 use Rattle.history.specs.Model.{Model, Step, refusal, decide}
-use Rattle.run.specs.Steps.{Performed, Plain, said}
+use Rattle.run.specs.Steps.{Performed, Plain}
 
 module _ {Row Change : Type 0} (o : Option StoreFault) (m m' : Model Row Change) (ls ls' : List ℕ) (st : Step Row Change) (out : Outcome Row) where
   -- accepted
@@ -29,12 +27,3 @@ module _ {Row Change : Type 0} (o : Option StoreFault) (m : Model Row Change) (l
 
 pub plain_performed : {Row Change : Type 0} (st : Step Row Change) (out : Outcome Row) (m : Model Row Change) (ls l : List ℕ) → Plain st out m ls → Performed st out m ls l l
 plain_performed st out m ls l p = record { outcome = p.outcome; model = p.model; leases = p.leases; list = ap (λ ws. ws ++ drop (length ws) l) (sym p.quiet) }
-
--- refused, by a call whose refusal a `?` hands on
-module _ {Row Change : Type 0} (o : Option StoreFault) (m m' : Model Row Change) (ls ls' : List ℕ) (st : Step Row Change) (r : Result (Outcome Row) StoreFault) where
-  pub plain_err : (f : StoreFault) → IsErrAnd r (λ y. y ≡ f) → o ≡ Some f → m' ≡ m → ls' ≡ ls → Plain (decide o m ls st) (said r) m' ls'
-  plain_err f h e a b = let p = err_from_is_err_and r h in plain_no o m m' ls ls' st (said r) f e (ap said p.1 ∙ ap (λ y. said (Err y)) p.2) a b
-
-module _ {Row Change : Type 0} (o : Option StoreFault) (m : Model Row Change) (ls : List ℕ) (st : Step Row Change) (r : Result (Outcome Row) StoreFault) (l l' : List ℕ) where
-  pub list_err : (f : StoreFault) → IsErrAnd r (λ y. y ≡ f) → o ≡ Some f → l' ≡ l → Performed (decide o m ls st) (said r) m ls l l'
-  list_err f h e a = let p = err_from_is_err_and r h in list_no o m ls st (said r) l l' f e (ap said p.1 ∙ ap (λ y. said (Err y)) p.2) a

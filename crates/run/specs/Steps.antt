@@ -2,11 +2,8 @@
 --     Performed st o m ls l l'    the outcome o, the model m and the leases ls after the call are those of the step st;
 --                                 what it wrote stands at the front of the list l', whose rest is as it was in l
 --     Plain st o m ls             the same of a call that is given no list
---     said r                      the outcome of a call that was answered or refused
-use Rattle.std.specs.Prelude.{◌≡◌, ℕ, List, [], ◌++◌, length, drop, Ok, Err, Result}
+use Rattle.std.specs.Prelude.{◌≡◌, ℕ, List, [], ◌++◌, length, drop}
 use Rattle.history.specs.declared.call.Outcome.{Outcome}
-use Rattle.history.specs.declared.call.Outcome.TheVariants.{Refused}
-use Rattle.history.specs.declared.fault.StoreFault.{StoreFault}
 use Rattle.history.specs.Model.{Model, Step}
 
 pub record Performed {Row Change : Type 0} (st : Step Row Change) (o : Outcome Row) (m : Model Row Change) (ls : List ℕ) (l l' : List ℕ) : Type 0 where
@@ -20,7 +17,3 @@ pub record Plain {Row Change : Type 0} (st : Step Row Change) (o : Outcome Row) 
   pub model : m ≡ st.model
   pub leases : ls ≡ st.leases
   pub quiet : st.told.written ≡ []
-
-abbrev pub said : {Row : Type 0} → Result (Outcome Row) StoreFault → Outcome Row
-said (Ok o) = o
-said (Err f) = Refused f

@@ -26,4 +26,4 @@ returns-in-Err g c =
     let m = view c.args.store.now in
     let ls = g.R.Registry.leases c.args.registry.now in
     let e = c.in-Err.ensures in
-    plain_no _ m _ ls _ _ _ c.in-Err.fault (ap (λ w. refused_commit m ls w) (sym c.take_up.ensures.0) ∙ e.0) refl (ap view e.2) (ap g.R.Registry.leases e.3)
+    plain_no _ m _ ls _ _ _ c.in-Err.fault (ap (λ w. refused_commit m ls w) (sym c.take_up.ensures.0) ∙ e.0) c.refused.ensures (ap view e.2) (ap g.R.Registry.leases e.3)

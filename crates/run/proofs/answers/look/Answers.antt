@@ -3,23 +3,23 @@ use Rattle.history.specs.declared.call.Outcome.TheVariants.{Shown}
 use Rattle.history.specs.Model.{looks, record_at, refused_read}
 use Rattle.store.specs.View.{view}
 use Rattle.store.specs.Calls.{Looks}
-use Rattle.run.proofs.Decisions.{plain_ok, plain_err}
+use Rattle.run.proofs.Decisions.{plain_ok, plain_no}
 use Rattle.run.proofs.answers.look.Goals as goal
 
-pub returns : goal.returns
+pub returns-in-Ok : goal.returns-in-Ok
 unfolding Looks
-returns g c =
+returns-in-Ok g c =
     let k = g.K.Kind.ops in
     let m = view c.args.store.now in
     let ls = g.R.Registry.leases c.args.registry.now in
-    let e = c.in_ok-done.ensures in
+    let e = c.in-Ok.ensures in
     let u = c.take_up-writer.ensures.0 in
     plain_ok _ m m ls ls _ _ (ap (λ t. refused_read m ls t c.args.record) (sym u) ∙ e.0) (ap Shown (e.1 ∙ ap (looks k (record_at k m c.args.record)) u)) refl refl refl
 
-pub returns-in_err-done : goal.returns-in_err-done
+pub returns-in-Err : goal.returns-in-Err
 unfolding Looks
-returns-in_err-done g c =
+returns-in-Err g c =
     let m = view c.args.store.now in
     let ls = g.R.Registry.leases c.args.registry.now in
-    let e = c.in_err-done.ensures in
-    plain_err _ m m ls ls _ _ _ c.from_residual.ensures.1 (ap (λ t. refused_read m ls t c.args.record) (sym c.take_up-writer.ensures.0) ∙ e.0) refl refl
+    let e = c.in-Err.ensures in
+    plain_no _ m m ls ls _ _ c.in-Err.fault (ap (λ t. refused_read m ls t c.args.record) (sym c.take_up-writer.ensures.0) ∙ e.0) c.refused.ensures refl refl

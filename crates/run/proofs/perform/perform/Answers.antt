@@ -1,7 +1,7 @@
 use Rattle.std.proofs.Common.{refl, ap}
 use Rattle.history.specs.declared.call.Outcome.TheVariants.{InUse}
 use Rattle.run.proofs.Decisions.{plain_performed}
-use Rattle.run.proofs.perform.answer.Goals as goal
+use Rattle.run.proofs.perform.perform.Goals as goal
 
 pub returns-in-Open : goal.returns-in-Open
 returns-in-Open g c = rw c.in-Open.is (plain_performed _ _ _ _ _ c.open.ensures)
