@@ -50,31 +50,30 @@ fn join_down<K: Kind>(table: &mut VersionTable<K::Change>, cursor: Cursor, hand:
     table.cut(cursor);
 }
 
-// Prunes a chain from the cursor on, which leads back from the row. Where nothing is left to prune the registry is not asked.
+// Prunes a chain from the cursor on, where its newest version stands, which leads back from the row.
 fn prune_from<K: Kind, R: Registry>(
     table: &mut VersionTable<K::Change>,
     registry: &R,
     row: K::Row,
     start: Cursor,
+    newest: Version<K::Change>,
 )
-    requires { Stands table.old.links start }
+    requires stands { Stands table.old.links start }
+    requires newest { Some newest ≡ slice_get (chain table.old start.list) start.place }
     ensures { Sets table.old start.list (take start.place (chain table.old start.list) ++ prune K.ops (opens (R.leases registry.now)) row (drop start.place (chain table.old start.list))) table.new }
 {
-    let newest = table.look(start);
-    if newest.is_none() {
-        return;
-    }
     let Some(least) = registry.least_from(0) else {
         table.drop_from(start);
         return;
     };
     let mut reached = row;
     let mut here = start;
-    let mut at = newest;
+    let mut at = Some(newest);
     while let Some(hand) = at {
         let next = table.links.step(here);
         let older = table.look(next);
         if apart(registry, least, hand.time, older) {
+            at = older;
             let back = K::undo(reached, hand.change);
             if K::same(reached, back) {
                 table.cut(here);
@@ -82,7 +81,6 @@ fn prune_from<K: Kind, R: Registry>(
                 reached = back;
                 here = next;
             }
-            at = older;
         } else {
             join_down::<K>(table, here, hand);
             at = table.look(here);
@@ -90,7 +88,7 @@ fn prune_from<K: Kind, R: Registry>(
     }
 }
 
-// Prunes the chain r, which leads back from the row.
+// Prunes the chain r, which leads back from the row. Where no version is left to prune the registry is not asked.
 pub fn prune_chain<K: Kind, R: Registry>(
     table: &mut VersionTable<K::Change>,
     r: usize,
@@ -99,7 +97,10 @@ pub fn prune_chain<K: Kind, R: Registry>(
 )
     ensures { Sets table.old r (prune K.ops (opens (R.leases registry.now)) row (chain table.old r)) table.new }
 {
-    prune_from::<K, R>(table, registry, row, Cursor::front(r));
+    let first = Cursor::front(r);
+    if let Some(newest) = table.look(first) {
+        prune_from::<K, R>(table, registry, row, first, newest);
+    }
 }
 
 // Prunes the chain r behind its first version, a holder's change, which leads back from the row in place.
@@ -114,7 +115,9 @@ pub fn prune_behind<K: Kind, R: Registry>(
     let first = Cursor::front(r);
     if let Some(held) = table.look(first) {
         let next = table.links.step(first);
-        let finished = K::undo(place, held.change);
-        prune_from::<K, R>(table, registry, finished, next);
+        if let Some(newest) = table.look(next) {
+            let finished = K::undo(place, held.change);
+            prune_from::<K, R>(table, registry, finished, next, newest);
+        }
     }
 }

@@ -1,5 +1,5 @@
-use Rattle.std.proofs.Common.{◌≡◌, ℕ, ◌+◌, Bool, true, not, [], ◌++◌, length, take, drop, set, is_some, None, Some, Option, sym, refl, ap, ◌∙◌, subst, append-nil, true≢false, arith}
-use Rattle.std.proofs.lemmas.List.{length-drop, drop_all, take_all, set-get_or}
+use Rattle.std.proofs.Common.{◌≡◌, ℕ, ◌+◌, ◌++◌, length, take, drop, set, sym, ap, ◌∙◌, subst, append-nil, arith}
+use Rattle.std.proofs.lemmas.List.{length-drop, drop_all, take_all}
 use Rattle.lease.specs.Times.{opens}
 use Rattle.kind.proofs.Telling.{decided}
 use Rattle.chain.specs.Pruning.{absorb, prune}
@@ -11,23 +11,6 @@ use Rattle.version_table.proofs.Cursors.{inside_list}
 use Rattle.version_table.proofs.Turns.{After, left, inside, next_of, moved_up, fewer, kept_turn, idle_turn, join_turn, absorb_short}
 use Rattle.version_table.proofs.prune.prune_from.Given as given
 use Rattle.version_table.proofs.prune.prune_from.Goals as goal
-
--- a version that is not there
-absent : {X : Type 0} (o : Option X) (b : Bool) → is_some o ≡ not b → b ≡ true → o ≡ None
-absent None b e t = refl
-absent (Some x) b e t = absurd (true≢false (e ∙ ap not t))
-
-pub returns-then-is_none : goal.returns-then-is_none
-returns-then-is_none g c =
-    let k = g.K.Kind.ops in
-    let os = opens (g.R.Registry.leases c.args.registry.now) in
-    let s = c.args.start in
-    let T = chains c.args.table.now in
-    let C = chain c.args.table.now s.list in
-    let h = slice_get_end C s.place (sym c.look-newest.ensures ∙ absent c.look-newest.result c.is_none.result c.is_none.ensures c.if-is_none.true) in
-    let none : take s.place C ++ prune k os c.args.row (drop s.place C) ≡ C =
-    ap (λ vs. take s.place C ++ prune k os c.args.row vs) (drop_all s.place C h) ∙ append-nil (take s.place C) ∙ take_all s.place C h in
-    record { room = refl; lists = sym (ap (set T s.list) none ∙ set-get_or T s.list []) }
 
 pub returns-in_default : goal.returns-in_default
 returns-in_default g c =
