@@ -17,11 +17,12 @@ pub enum StoreCause {
     FromRegistry(RegistryFault),
 }
 
-// A store's refusal, with its place: a size, a start, a record, a clock, a length, or the registry's place.
+// A store's refusal, with its place: a size, a start, a record, a clock, a length, or the registry's place. The place stands
+// first, so that an outcome, which may hold a fault, is copied in whole words: otherwise a call's answer waited for its copy.
 #[derive(Clone, Copy, PartialEq, Eq, Debug)]
 pub struct StoreFault {
-    pub cause: StoreCause,
     pub place: u64,
+    pub cause: StoreCause,
 }
 
 impl StoreCause {
